@@ -1,0 +1,54 @@
+-- The words of a run of bytes. Assumes nothing.
+use Prim.Native.Nat.{ℕ, zero, suc, _+_, _*_, _/_, _≤_, _<_, min}
+use mathlib.Core.Path.{_≡_, refl, ap}
+use mathlib.Core.List.{List, [], _∷_, _++_}
+use native.Mathlib.Omega.{arith}
+use native.Mathlib.Nat.{zero-add}
+use native.Mathlib.Numerals.{add-one}
+use lib.ListN.{length, getD, take, drop, set, length-append, length-take, length-drop}
+use lib.Seq.{paste-suc}
+use Rattle.input.specs.Bytes.{wordOf, wordsOf, written, filled, Fills}
+
+-- how many words there are
+pub words-length : (bs : List ℕ) → length (wordsOf bs) ≡ length bs / 4
+unfolding wordsOf
+words-length [] = refl
+words-length (a ∷ []) = refl
+words-length (a ∷ b ∷ []) = refl
+words-length (a ∷ b ∷ c ∷ []) = refl
+words-length (a ∷ b ∷ c ∷ d ∷ rest) = omega (arith, words-length rest)
+
+-- four bytes further on
+later : (a b c d : ℕ) (rest : List ℕ) (i k : ℕ) → getD (a ∷ b ∷ c ∷ d ∷ rest) (suc i * 4 + k) 0 ≡ getD rest (i * 4 + k) 0
+later a b c d rest i k =
+    let e : suc i * 4 + k ≡ suc (suc (suc (suc (i * 4 + k)))) = omega arith in
+    ap (λ (n : ℕ). getD (a ∷ b ∷ c ∷ d ∷ rest) n 0) e
+
+-- a word from its four bytes
+pub words-at : (i : ℕ) (bs : List ℕ) → i * 4 + 4 ≤ length bs
+    → wordOf (getD bs (i * 4 + 0) 0) (getD bs (i * 4 + 1) 0) (getD bs (i * 4 + 2) 0) (getD bs (i * 4 + 3) 0) ≡ getD (wordsOf bs) i 0
+unfolding wordsOf
+words-at i [] h = absurd (omega arith)
+words-at i (a ∷ []) h = absurd (omega arith)
+words-at i (a ∷ b ∷ []) h = absurd (omega arith)
+words-at i (a ∷ b ∷ c ∷ []) h = absurd (omega arith)
+words-at zero (a ∷ b ∷ c ∷ d ∷ rest) h = refl
+words-at (suc i) (a ∷ b ∷ c ∷ d ∷ rest) h =
+    rw (later a b c d rest i 0, later a b c d rest i 1, later a b c d rest i 2, later a b c d rest i 3) (words-at i rest (omega arith))
+
+-- a turn of the loop that fills: one word more
+pub filled-on : (ws before out : List ℕ) (j : ℕ) → out ≡ take j ws ++ drop j before → j < length before → j < length ws
+    → set out j (getD ws j 0) ≡ take (j + 1) ws ++ drop (j + 1) before
+filled-on ws before out j e h k = rw (e, add-one) (simp zero-add at (paste-suc before 0 ws j 0 (simp zero-add h) k))
+
+-- after its last turn
+pub filled-all : (bytes before out : List ℕ) (i n : ℕ) → n ≡ min (length bytes / 4) (length before) → i ≡ n
+    → out ≡ take i (wordsOf bytes) ++ drop i before → Fills bytes before out n
+unfolding written filled
+filled-all bytes before out i n e q h = record { buffer = rw (← e, ← q) h; number = e }
+
+-- the words written are within the buffer
+pub fills-within : {bytes before after : List ℕ} {answer : ℕ} → Fills bytes before after answer → answer ≤ length after
+unfolding written filled
+fills-within {bytes} {before} f =
+    rw (f .buffer, f .number) (simp (length-append, length-take, length-drop) (omega (arith, words-length bytes)))

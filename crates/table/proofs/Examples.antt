@@ -1,0 +1,188 @@
+-- The definition of reading, computed on the example tables of document 01 and on the smallest table for each fault. Assumes nothing.
+use mathlib.Core.Path.{_≡_, refl, ap}
+use mathlib.Core.List.{List, [], _∷_, _++_, map}
+use Prim.Native.Nat.{ℕ, _<_}
+use native.Mathlib.Omega.{arith}
+use lib.ListN.{length, replicate}
+use borrow.Author.Tests.{le-leb, lt-leb}
+use Rattle.words.specs.Words.{part, run, includes}
+use Rattle.table.specs.Outcome.{Outcome, result, refused}
+use Rattle.table.specs.Table.{Pattern, Field, Condition, Entry, Table, fieldBits, fieldsAt, unmatchingAt, conditionsAt, conditionsEnd, entriesAt}
+use Rattle.table.specs.Check.{Check, fault, _then_, need, patternCheck, unmatchingCheck, unmatchingsCheck, conditionCheck, conditionsCheck, fieldRule, fieldCheck, fieldsCheck, headCheck, entryCheck, entriesCheck, firstCheck, tableCheck, readTable}
+use Rattle.table.specs.Answer.{Shape, shapeOf}
+use Rattle.table.specs.Worked.{printed, worked}
+use Rattle.table.proofs.Laws.{checks}
+
+-- what reading a table says, with every definition open
+pub opened : List ℕ → Outcome Table
+unfolding part run includes fieldBits fieldsAt unmatchingAt conditionsAt conditionsEnd entriesAt _then_ need patternCheck unmatchingCheck unmatchingsCheck conditionCheck conditionsCheck fieldRule fieldCheck fieldsCheck headCheck entryCheck entriesCheck firstCheck tableCheck
+opened ws = readTable ws
+
+abbrev pattern : ℕ → ℕ → Pattern
+pattern m v = record { mask = m; value = v }
+
+abbrev field : ℕ → ℕ → Field
+field l w = record { low = l; width = w }
+
+-- ---- the tables of document 01
+
+printed-reads :
+    readTable printed
+    ≡ result (record { width = 2; entries = record { label = 5; size = 2; opcode = pattern 2 2; fields = field 0 1 ∷ []; conditions = [] } ∷ [] })
+unfolding opened
+printed-reads = refl
+
+-- an entry of the worked table
+abbrev entry : ℕ → Pattern → List Field → List Condition → Entry
+entry l p fs ks = record { label = l; size = 8; opcode = p; fields = fs; conditions = ks }
+
+abbrev a : Field
+a = field 4 2
+
+abbrev b : Field
+b = field 2 2
+
+abbrev c : Field
+c = field 0 2
+
+abbrev f : Field
+f = field 6 1
+
+-- a = 11 excludes
+abbrev taken : Condition
+taken = record { matching = pattern 0x30 0x30; unmatching = [] }
+
+worked-reads :
+    readTable worked
+    ≡ result (record {
+      width = 8;
+      entries =
+          entry 0x41 (pattern 0xc0 0x00) (a ∷ b ∷ c ∷ []) (record { matching = pattern 0x30 0x00; unmatching = pattern 0x03 0x00 ∷ pattern 0x03 0x03 ∷ [] } ∷ taken ∷ [])
+          ∷ entry 0x42 (pattern 0xc0 0x40) (a ∷ b ∷ c ∷ []) (taken ∷ [])
+          ∷ entry 0x43 (pattern 0xc3 0x80) (a ∷ b ∷ []) []
+          ∷ entry 0x44 (pattern 0xc3 0x81) (a ∷ b ∷ []) []
+          ∷ entry 0x45 (pattern 0xf3 0x01) (b ∷ []) []
+          ∷ entry 0x46 (pattern 0xf3 0x02) (b ∷ []) []
+          ∷ entry 0x47 (pattern 0xb0 0x30) (f ∷ b ∷ c ∷ []) []
+          ∷ [];
+    })
+unfolding opened
+worked-reads = refl
+
+-- ---- the smallest table for each fault: all are refused, with these numbers and places
+
+abbrev refusals : List (List ℕ) → List (Outcome Table)
+refusals tables = map readTable tables
+
+-- number 1: empty; kind 2; a spare bit; 257 entries; width 0 and 33
+first-words :
+    refusals ([] ∷ (0x20000008 ∷ []) ∷ (0x10000108 ∷ []) ∷ (0x11010008 ∷ []) ∷ (0x10000000 ∷ []) ∷ (0x10000021 ∷ []) ∷ [])
+    ≡ refused 1 0 0 ∷ refused 1 0 0 ∷ refused 1 0 0 ∷ refused 1 0 0 ∷ refused 1 0 0 ∷ refused 1 0 0 ∷ []
+unfolding opened
+first-words = refl
+
+-- a table of no entries is good, and so is an empty mask
+bare : map shapeOf (refusals ((0x10000020 ∷ []) ∷ (0x10010002 ∷ 0x20000210 ∷ 0 ∷ 0 ∷ 0x30000002 ∷ []) ∷ []))
+    ≡ result (record { width = 32; entries = 0 }) ∷ result (record { width = 2; entries = 1 }) ∷ []
+unfolding opened
+bare = refl
+
+-- an entry of width 2 with a field and a condition with an unmatching pattern: eleven words, good
+abbrev whole : List ℕ
+whole = 0x10010002 ∷ 0x20000211 ∷ 2 ∷ 2 ∷ 0x30000001 ∷ 0x40000001 ∷ 2 ∷ 2 ∷ 0x50000000 ∷ 1 ∷ 1 ∷ []
+
+whole-good : shapeOf (readTable whole) ≡ result (record { width = 2; entries = 1 })
+unfolding opened
+whole-good = refl
+
+-- ends early: cut before each of its words but the first, 2 with the length
+cut :
+    refusals (
+    (0x10010002 ∷ [])
+    ∷ (0x10010002 ∷ 0x20000211 ∷ [])
+    ∷ (0x10010002 ∷ 0x20000211 ∷ 2 ∷ [])
+    ∷ (0x10010002 ∷ 0x20000211 ∷ 2 ∷ 2 ∷ [])
+    ∷ (0x10010002 ∷ 0x20000211 ∷ 2 ∷ 2 ∷ 0x30000001 ∷ [])
+    ∷ (0x10010002 ∷ 0x20000211 ∷ 2 ∷ 2 ∷ 0x30000001 ∷ 0x40000001 ∷ [])
+    ∷ (0x10010002 ∷ 0x20000211 ∷ 2 ∷ 2 ∷ 0x30000001 ∷ 0x40000001 ∷ 2 ∷ [])
+    ∷ (0x10010002 ∷ 0x20000211 ∷ 2 ∷ 2 ∷ 0x30000001 ∷ 0x40000001 ∷ 2 ∷ 2 ∷ [])
+    ∷ (0x10010002 ∷ 0x20000211 ∷ 2 ∷ 2 ∷ 0x30000001 ∷ 0x40000001 ∷ 2 ∷ 2 ∷ 0x50000000 ∷ [])
+    ∷ (0x10010002 ∷ 0x20000211 ∷ 2 ∷ 2 ∷ 0x30000001 ∷ 0x40000001 ∷ 2 ∷ 2 ∷ 0x50000000 ∷ 1 ∷ [])
+    ∷ []
+    )
+    ≡ refused 2 1 0 ∷ refused 2 2 0 ∷ refused 2 3 0 ∷ refused 2 4 0 ∷ refused 2 5 0 ∷ refused 2 6 0 ∷ refused 2 7 0 ∷ refused 2 8 0 ∷ refused 2 9 0 ∷ refused 2 10 0 ∷ []
+unfolding opened
+cut = refl
+
+-- number 2 at an entry's head: kind 3; length 0; length over the width; 9 fields; 9 conditions
+heads :
+    refusals ((0x10010002 ∷ 0x30000211 ∷ []) ∷ (0x10010002 ∷ 0x20000011 ∷ []) ∷ (0x10010002 ∷ 0x20000311 ∷ []) ∷ (0x10010002 ∷ 0x20000290 ∷ []) ∷ (0x10010002 ∷ 0x20000209 ∷ []) ∷ [])
+    ≡ refused 2 1 0 ∷ refused 2 1 0 ∷ refused 2 1 0 ∷ refused 2 1 0 ∷ refused 2 1 0 ∷ []
+unfolding opened
+heads = refl
+
+-- number 2 at the head of a field, a condition, an unmatching pattern: kind, spare bit; 9 unmatching patterns; a word left over
+parts :
+    refusals (
+    (0x10010002 ∷ 0x20000211 ∷ 2 ∷ 2 ∷ 0x40000001 ∷ [])
+    ∷ (0x10010002 ∷ 0x20000211 ∷ 2 ∷ 2 ∷ 0x30010001 ∷ [])
+    ∷ (0x10010002 ∷ 0x20000211 ∷ 2 ∷ 2 ∷ 0x30000001 ∷ 0x50000001 ∷ [])
+    ∷ (0x10010002 ∷ 0x20000211 ∷ 2 ∷ 2 ∷ 0x30000001 ∷ 0x40000011 ∷ [])
+    ∷ (0x10010002 ∷ 0x20000211 ∷ 2 ∷ 2 ∷ 0x30000001 ∷ 0x40000009 ∷ [])
+    ∷ (0x10010002 ∷ 0x20000211 ∷ 2 ∷ 2 ∷ 0x30000001 ∷ 0x40000001 ∷ 2 ∷ 2 ∷ 0x60000000 ∷ [])
+    ∷ (0x10010002 ∷ 0x20000211 ∷ 2 ∷ 2 ∷ 0x30000001 ∷ 0x40000001 ∷ 2 ∷ 2 ∷ 0x50000001 ∷ [])
+    ∷ (whole ++ (0 ∷ []))
+    ∷ []
+    )
+    ≡ refused 2 4 0 ∷ refused 2 4 0 ∷ refused 2 5 0 ∷ refused 2 5 0 ∷ refused 2 5 0 ∷ refused 2 8 0 ∷ refused 2 8 0 ∷ refused 2 11 0 ∷ []
+unfolding opened
+parts = refl
+
+-- number 3, at the mask: a mask outside the own bits (length 1 of width 2), a value outside the mask; of an opcode, a matching, an unmatching pattern
+patterns :
+    refusals (
+    (0x10010002 ∷ 0x20000110 ∷ 1 ∷ 0 ∷ [])
+    ∷ (0x10010002 ∷ 0x20000211 ∷ 2 ∷ 1 ∷ [])
+    ∷ (0x10010002 ∷ 0x20000211 ∷ 2 ∷ 2 ∷ 0x30000001 ∷ 0x40000001 ∷ 4 ∷ 0 ∷ [])
+    ∷ (0x10010002 ∷ 0x20000211 ∷ 2 ∷ 2 ∷ 0x30000001 ∷ 0x40000001 ∷ 2 ∷ 3 ∷ [])
+    ∷ (0x10010002 ∷ 0x20000211 ∷ 2 ∷ 2 ∷ 0x30000001 ∷ 0x40000001 ∷ 2 ∷ 2 ∷ 0x50000000 ∷ 4 ∷ 0 ∷ [])
+    ∷ (0x10010002 ∷ 0x20000211 ∷ 2 ∷ 2 ∷ 0x30000001 ∷ 0x40000001 ∷ 2 ∷ 2 ∷ 0x50000000 ∷ 1 ∷ 2 ∷ [])
+    ∷ []
+    )
+    ≡ refused 3 2 0 ∷ refused 3 2 0 ∷ refused 3 6 0 ∷ refused 3 6 0 ∷ refused 3 9 0 ∷ refused 3 9 0 ∷ []
+unfolding opened
+patterns = refl
+
+-- number 4, at the field: width 0; below and above the own bits; over the mask; over an earlier field. At the entry: not covered, with and without fields
+fields :
+    refusals (
+    (0x10010003 ∷ 0x20000210 ∷ 4 ∷ 0 ∷ 0x30000100 ∷ [])
+    ∷ (0x10010003 ∷ 0x20000210 ∷ 4 ∷ 0 ∷ 0x30000001 ∷ [])
+    ∷ (0x10010003 ∷ 0x20000210 ∷ 4 ∷ 0 ∷ 0x30000103 ∷ [])
+    ∷ (0x10010003 ∷ 0x20000210 ∷ 4 ∷ 0 ∷ 0x30000102 ∷ [])
+    ∷ (0x10010003 ∷ 0x20000320 ∷ 4 ∷ 0 ∷ 0x30000002 ∷ 0x30000101 ∷ [])
+    ∷ (0x10010003 ∷ 0x20000310 ∷ 4 ∷ 0 ∷ 0x30000001 ∷ [])
+    ∷ (0x10010003 ∷ 0x20000300 ∷ 6 ∷ 0 ∷ [])
+    ∷ []
+    )
+    ≡ refused 4 4 0 ∷ refused 4 4 0 ∷ refused 4 4 0 ∷ refused 4 4 0 ∷ refused 4 5 0 ∷ refused 4 1 0 ∷ refused 4 1 0 ∷ []
+unfolding opened
+fields = refl
+
+-- two faults: the first in reading order. A spare bit of a field whose bits are wrong too is 2; a last field's own fault comes before the cover;
+-- a bad mask whose value is missing is 2 with the length
+firsts :
+    refusals (
+    (0x10010003 ∷ 0x20000210 ∷ 4 ∷ 0 ∷ 0x30010100 ∷ [])
+    ∷ (0x10010003 ∷ 0x20000320 ∷ 4 ∷ 0 ∷ 0x30000001 ∷ 0x30000001 ∷ [])
+    ∷ (0x10010002 ∷ 0x20000110 ∷ 1 ∷ [])
+    ∷ []
+    )
+    ≡ refused 2 4 0 ∷ refused 4 5 0 ∷ refused 2 3 0 ∷ []
+unfolding opened
+firsts = refl
+
+-- a table of more than 16,384 words is 1, whatever they are
+too-long : (ws : List ℕ) → 16384 < length ws → readTable ws ≡ refused 1 0 0
+unfolding tableCheck firstCheck
+too-long ws h = let l = le-leb 1 (length ws) (omega arith) in simp (l, lt-leb _ _ h, checks)

@@ -1,0 +1,5 @@
+pub mod Laws
+pub mod Bounds
+pub mod Views
+pub mod Good
+pub mod Examples

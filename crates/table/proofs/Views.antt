@@ -1,0 +1,185 @@
+-- What callers rely on, of a table without fault: from a place and a count, the item at hand and the rest. Assumes nothing.
+use mathlib.Core.Path.{_≡_, refl, sym, ap, _∙_}
+use mathlib.Core.List.{List}
+use mathlib.Core.Bool.{cond}
+use Prim.Native.Nat.{ℕ, zero, suc, _+_, _-_, _*_, _≤_, _<_}
+use native.Mathlib.Nat.{add-zero, zero-add}
+use native.Mathlib.Numerals.{sub-one}
+use native.Mathlib.Omega.{arith}
+use lib.ListN.{length, getD}
+use borrow.Author.Tests.{leb-true, lt-ltb}
+use Rattle.words.specs.Words.{word}
+use Rattle.table.specs.Outcome.{Outcome, result, refused}
+use Rattle.table.specs.Table.{Table, Entry, widthOf, countOf, sizeOf, fieldsOf, conditionsOf, unmatchingOf, conditionEnd, opcodePlace, fieldsPlace, conditionsPlace, entryAt, entriesAt, entryEnd, entryPlace, tableOf, ownBits}
+use Rattle.table.specs.Check.{Check, fine, fault, reading, readTable, tableCheck, firstCheck, unmatchingsCheck, conditionCheck, conditionsCheck, fieldsCheck, headCheck, patternCheck, entryCheck, entriesCheck}
+use Rattle.table.specs.Ready.{Ready}
+use Rattle.table.specs.Answer.{Shape, shapeOf, placeOf, said, Reads}
+use Rattle.table.specs.declared.Answer.the-variants.{Accepted, Refused}
+use Rattle.table.specs.declared.Reading.{Reading}
+use Rattle.table.proofs.Laws.{then-l, then-r, need-true, pattern-fits, unmatching-fits, fields-fit, head-fits, first-some, first-short, first-count, first-width, length-entries, accepts-places, accepts}
+
+-- ---- patterns and conditions, one by one
+
+module _ (ws : List ℕ) (own : ℕ) where
+  pub unmatching-here : (n p : ℕ) → 0 < n → unmatchingsCheck ws own n p ≡ fine → p + 3 ≤ length ws
+  unfolding unmatchingsCheck
+  unmatching-here zero p h e = absurd (omega arith)
+  unmatching-here (suc n) p h e = unmatching-fits ws own p (then-l _ _ e)
+
+  pub unmatching-rest : (n p : ℕ) → 0 < n → unmatchingsCheck ws own n p ≡ fine → unmatchingsCheck ws own (n - 1) (p + 3) ≡ fine
+  unfolding unmatchingsCheck
+  unmatching-rest zero p h e = absurd (omega arith)
+  unmatching-rest (suc n) p h e = rw (sub-one (suc n)) (then-r _ _ e)
+
+  pub condition-here : (n p : ℕ) → 0 < n → conditionsCheck ws own n p ≡ fine → conditionCheck ws own p ≡ fine
+  unfolding conditionsCheck
+  condition-here zero p h e = absurd (omega arith)
+  condition-here (suc n) p h e = then-l _ _ e
+
+  pub condition-rest : (n p : ℕ) → 0 < n → conditionsCheck ws own n p ≡ fine → conditionsCheck ws own (n - 1) (conditionEnd ws p) ≡ fine
+  unfolding conditionsCheck
+  condition-rest zero p h e = absurd (omega arith)
+  condition-rest (suc n) p h e = rw (sub-one (suc n)) (then-r _ _ e)
+
+  -- the patterns of a condition
+  pub condition-patterns : (p : ℕ) → conditionCheck ws own p ≡ fine → unmatchingsCheck ws own (unmatchingOf (word ws p)) (p + 3) ≡ fine
+  unfolding conditionCheck
+  condition-patterns p e = then-r _ _ (then-r _ _ (then-r _ _ (then-r _ _ (then-r _ _ e))))
+
+  pub condition-matching : (p : ℕ) → conditionCheck ws own p ≡ fine → p + 1 + 2 ≤ length ws
+  unfolding conditionCheck
+  condition-matching p e = pattern-fits ws own (p + 1) (then-l _ _ (then-r _ _ (then-r _ _ (then-r _ _ (then-r _ _ e)))))
+
+-- ---- an entry without fault
+
+module _ (ws : List ℕ) (width p : ℕ) (e : entryCheck ws width p ≡ fine) where
+  pub entry-head : headCheck ws width p ≡ fine
+  unfolding entryCheck
+  entry-head = then-l _ _ e
+
+  pub entry-here : p + 1 ≤ length ws
+  entry-here = head-fits ws width p entry-head
+
+  pub entry-opcode : opcodePlace ws p + 2 ≤ length ws
+  unfolding entryCheck
+  entry-opcode = pattern-fits ws _ (opcodePlace ws p) (then-l _ _ (then-r _ _ e))
+
+  pub entry-field-check : fieldsCheck ws p width (sizeOf (word ws p)) (word ws (opcodePlace ws p)) (fieldsOf (word ws p)) (fieldsPlace ws p) ≡ fine
+  unfolding entryCheck
+  entry-field-check = then-l _ _ (then-r _ _ (then-r _ _ e))
+
+  pub entry-fields : conditionsPlace ws p ≤ length ws
+  entry-fields = fields-fit ws p width (sizeOf (word ws p)) (word ws (opcodePlace ws p)) _ (fieldsPlace ws p) (omega (arith, entry-opcode)) entry-field-check
+
+  pub entry-conditions : conditionsCheck ws (ownBits width (sizeOf (word ws p))) (conditionsOf (word ws p)) (conditionsPlace ws p) ≡ fine
+  unfolding entryCheck
+  entry-conditions = then-r _ _ (then-r _ _ (then-r _ _ e))
+
+  pub entry-few-fields : fieldsOf (word ws p) ≤ 8
+  unfolding headCheck
+  entry-few-fields = leb-true _ _ (need-true _ _ _ (then-l _ _ (then-r _ _ (then-r _ _ (then-r _ _ (then-r _ _ entry-head))))))
+
+  pub entry-few-conditions : conditionsOf (word ws p) ≤ 8
+  unfolding headCheck
+  entry-few-conditions = leb-true _ _ (need-true _ _ _ (then-r _ _ (then-r _ _ (then-r _ _ (then-r _ _ (then-r _ _ entry-head))))))
+
+-- ---- entry k, by its place
+
+module _ (ws : List ℕ) (width : ℕ) where
+  check-from : (k n j : ℕ) → entriesCheck ws width n (entryPlace ws j) ≡ fine → k < n → entryCheck ws width (entryPlace ws (j + k)) ≡ fine
+  unfolding entriesCheck entryPlace
+  check-from zero zero j e h = absurd (omega arith)
+  check-from zero (suc n) j e h = rw add-zero (then-l _ _ e)
+  check-from (suc k) zero j e h = absurd (omega arith)
+  check-from (suc k) (suc n) j e h =
+      let g : suc j + k ≡ j + suc k = omega arith in
+      rw g at (check-from k n (suc j) (then-r _ _ e) (omega arith))
+
+  entry-from : (k n j : ℕ) (d : Entry) → k < n → getD (entriesAt ws n (entryPlace ws j)) k d ≡ entryAt ws (entryPlace ws (j + k))
+  unfolding entriesAt entryPlace
+  entry-from zero zero j d h = absurd (omega arith)
+  entry-from zero (suc n) j d h = rw (add-zero j)
+  entry-from (suc k) zero j d h = absurd (omega arith)
+  entry-from (suc k) (suc n) j d h =
+      let g : suc j + k ≡ j + suc k = omega arith in
+      rw (← g) (entry-from k n (suc j) d (omega arith))
+
+  -- in a table without fault each entry is without fault, and the words from its place on are that entry
+  pub entry-check : (k n : ℕ) → entriesCheck ws width n 1 ≡ fine → k < n → entryCheck ws width (entryPlace ws k) ≡ fine
+  unfolding entryPlace
+  entry-check k n e h = rw zero-add at (check-from k n 0 e h)
+
+  pub entry-at : (k n : ℕ) (d : Entry) → k < n → getD (entriesAt ws n 1) k d ≡ entryAt ws (entryPlace ws k)
+  unfolding entryPlace
+  entry-at k n d h = rw zero-add at (entry-from k n 0 d h)
+
+-- ---- what the reader's answer tells a caller
+
+module _ (ws places : List ℕ) (width count : ℕ) (r : Ready ws places width count) where
+  first-fine : firstCheck ws ≡ fine
+  unfolding tableCheck
+  first-fine = then-l _ _ (r .good)
+
+  pub ready-entries : entriesCheck ws width count 1 ≡ fine
+  unfolding tableCheck
+  ready-entries = rw (r .wide, r .number) (then-r _ _ (r .good))
+
+  pub ready-read : readTable ws ≡ result (record { width = width; entries = entriesAt ws count 1 })
+  ready-read = rw (r .good, r .wide, r .number)
+
+  pub ready-some : 1 ≤ length ws
+  ready-some = first-some ws first-fine
+
+  pub ready-short : length ws ≤ 16384
+  ready-short = first-short ws first-fine
+
+  pub ready-few : count ≤ 256
+  ready-few = rw (r .number) (first-count ws first-fine)
+
+  pub ready-wide : width ≤ 32
+  ready-wide = rw (r .wide) (first-width ws first-fine)
+
+  pub ready-not-empty : 1 ≤ width
+  unfolding firstCheck
+  ready-not-empty = rw (r .wide) (leb-true _ _ (need-true _ _ _ (then-l _ _ (then-r _ _ (then-r _ _ (then-r _ _ (then-r _ _ (then-r _ _ first-fine))))))))
+
+  -- entry k stands at its place in the array, without fault
+  module _ (k : ℕ) (h : k < count) where
+    pub ready-entry : entryCheck ws width (getD places k 0) ≡ fine
+    ready-entry = rw (r .each k h) (entry-check ws width k count ready-entries h)
+
+    pub ready-at : (d : Entry) → getD (entriesAt ws count 1) k d ≡ entryAt ws (getD places k 0)
+    ready-at d = rw (r .each k h) (entry-at ws width k count d h)
+
+    pub ready-place : getD places k 0 + 1 ≤ length ws
+    ready-place = entry-here ws width _ ready-entry
+
+shape-fine : (v : Check) (t : Table) (s : Shape) → result s ≡ shapeOf (reading v t) → v ≡ fine
+shape-fine fine t s e = refl
+shape-fine (fault n p) t s e = absurd (let z : _≡_ {A = ℕ} 0 1 = cc in omega arith)
+
+shape-refused : (v : Check) (t : Table) (n p w : ℕ) → refused n p w ≡ shapeOf (reading v t) → reading v t ≡ refused n p w
+shape-refused fine t n p w e = absurd (let z : _≡_ {A = ℕ} 0 1 = cc in omega arith)
+shape-refused (fault m q) t n p w e = cc
+
+abbrev shape : ℕ → ℕ → Shape
+shape width count = record { width = width; entries = count }
+
+module _ (ws : List ℕ) (r : Reading) (reads : Reads ws r) where
+  pub reading-refused : (n p : ℕ) → r .answer ≡ Refused n p → readTable ws ≡ refused n p 0
+  reading-refused n p e = shape-refused (tableCheck ws) (tableOf ws) n p 0 (sym (ap said e) ∙ reads .answer)
+
+  pub reading-ready : (width count : ℕ) → r .answer ≡ Accepted width count → Ready ws (r .places) width count
+  reading-ready width count e =
+      let s : said (Accepted width count) ≡ shapeOf (readTable ws) = sym (ap said e) ∙ reads .answer in
+      let t : tableCheck ws ≡ fine = shape-fine (tableCheck ws) (tableOf ws) _ s in
+      let u : said (Accepted width count) ≡ said (Accepted (widthOf (word ws 0)) (countOf (word ws 0))) = s ∙ sym (accepts ws t _ _ refl refl) in
+      let v : shape width count ≡ shape (widthOf (word ws 0)) (countOf (word ws 0)) = cc in
+      let w = ap (λ (x : Shape). x .width) v in
+      let n = ap (λ (x : Shape). x .entries) v in
+      record {
+        good = t;
+        wide = w;
+        number = n;
+        each = λ k h. reads .places k ∙ sym (accepts-places ws t count n k) ∙ rw (lt-ltb k count h);
+      }

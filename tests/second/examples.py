@@ -1,0 +1,349 @@
+"""Tables and questions written by hand, with the lines of probe-format.md that document 01 asks for.
+
+Nothing here is computed by the second implementation: every number and place was written out by reading document 01.
+"""
+
+
+def table(text):
+    """A table from its words in hexadecimal."""
+    return [int(word, 16) for word in text.split()]
+
+
+# The five words that document 01 prints: width 2, one entry 1-, one field on bit 0.
+PRINTED = table("10010002 20050210 00000002 00000002 30000001")
+
+# Eleven words with every kind: the printed entry with a condition and an unmatching pattern.
+#                 0        1        2        3        4        5        6        7        8        9        10
+EVERY_KIND = table("10010002 20050211 00000002 00000002 30000001 40000001 00000001 00000001 50000000 00000002 00000000")
+
+# Document 001's table II as document 01's "Worked table" has it; entries A to G, labels 0xa to 0x10.
+# Fields: a bits 5-4 (30000402), b bits 3-2 (30000202), c bits 1-0 (30000002), f bit 6 (30000601).
+WORKED = table("""
+    10070008
+    200a0832 000000c0 00000000 30000402 30000202 30000002
+      40000002 00000030 00000000 50000000 00000003 00000000 50000000 00000003 00000003
+      40000000 00000030 00000030
+    200b0831 000000c0 00000040 30000402 30000202 30000002
+      40000000 00000030 00000030
+    200c0820 000000c3 00000080 30000402 30000202
+    200d0820 000000c3 00000081 30000402 30000202
+    200e0810 000000f3 00000001 30000202
+    200f0810 000000f3 00000002 30000202
+    20100830 000000b0 00000030 30000601 30000202 30000002
+""")
+
+# Width 3: the patterns of document 01's examples.
+ZERO_HIGH_ZERO_LOW = table("10020003 20000310 00000004 00000000 30000002 20010310 00000001 00000000 30000102")
+WITH_THIRD = table("""10030003 20000310 00000004 00000000 30000002 20010310 00000001 00000000 30000102
+    20020310 00000005 00000000 30000101""")
+MORE_MASK_BITS = table("10020003 20000310 00000004 00000000 30000002 20010310 00000003 00000000 30000201")
+
+# Width 8: a short entry 100 (three bits at the top, no field) and a short entry 01- with one field on bit 5.
+SHORT = table("10020008 20000300 000000e0 00000080 20010310 000000c0 00000040 30000501")
+
+# Width 8: the short entry 1-------, whose lower bits a longer one 1------0 takes: it refines the first.
+SHORT_AND_LONG = table("10020008 20000100 00000080 00000080 20010810 00000081 00000080 30000106")
+
+
+# Width 4, entry 1--- with one condition on every word and an unmatching pattern for each of its eight words: never satisfied.
+EIGHT_UNMATCHING = table("10010004 20000411 00000008 00000008 30000003 40000008 00000000 00000000 "
+                         + " ".join(f"50000000 00000007 {value:08x}" for value in range(8)))
+
+# The same entry with eight conditions, each of which takes one of its eight words away: it claims none.
+EIGHT_CONDITIONS = table("10010004 20000418 00000008 00000008 30000003 "
+                         + " ".join(f"40000000 00000007 {value:08x}" for value in range(8)))
+
+
+def entries_of_width_one(count, words_each):
+    """`count` times the same small entry after a first word of width 1."""
+    return [0x10000001 | count << 16] + words_each * count
+
+
+SMALL_ENTRY = table("20000100 00000001 00000000")
+
+# The longest entry, 227 words: width 9, mask on bit 8, fields on bits 7 to 0, 8 conditions of 8 unmatching patterns.
+LONG_ENTRY = table("20000988 00000100 00000100 " + " ".join(f"3000{bit:02x}01" for bit in range(8)) + " "
+                   + ("40000008 00000001 00000001 " + "50000000 00000002 00000002 " * 8) * 8)
+LONGEST_ENTRY = [0x10010009] + LONG_ENTRY
+SHORT_ENTRY = table("20000900 000001ff 00000000")
+FOUR_WORD_ENTRY = table("20000910 000001fe 00000000 30000001")
+
+# 1 + 72 x 227 + 13 x 3 words are 16,384; with one field more they are 16,385.
+LONGEST = [0x10550009] + LONG_ENTRY * 72 + SHORT_ENTRY * 13
+ONE_TOO_LONG = [0x10550009] + LONG_ENTRY * 72 + SHORT_ENTRY * 12 + FOUR_WORD_ENTRY
+
+
+# (what it shows, the table's words, the line of request 1)
+READ_EXAMPLES = [
+    # Good tables: width and number of entries.
+    ("the printed table", PRINTED, "1 0 0 00000000 2 1"),
+    ("the worked table", WORKED, "1 0 0 00000000 8 7"),
+    ("every kind once", EVERY_KIND, "1 0 0 00000000 2 1"),
+    ("no entries, width 1", table("10000001"), "1 0 0 00000000 1 0"),
+    ("no entries, width 32", table("10000020"), "1 0 0 00000000 32 0"),
+    ("an empty mask, one field on everything", table("10010002 20050210 00000000 00000000 30000002"), "1 0 0 00000000 2 1"),
+    ("width 32, all in the mask", table("10010020 2fff2000 ffffffff ffffffff"), "1 0 0 00000000 32 1"),
+    ("width 32, all in one field", table("10010020 20002010 00000000 00000000 30000020"), "1 0 0 00000000 32 1"),
+    ("a short entry at the top", SHORT, "1 0 0 00000000 8 2"),
+    ("fields out of order", table("10010003 20000330 00000000 00000000 30000101 30000001 30000201"), "1 0 0 00000000 3 1"),
+    ("an empty matching pattern", table("10010001 20000101 00000001 00000000 40000000 00000000 00000000"), "1 0 0 00000000 1 1"),
+    ("the same entry twice", table("10020001 20000100 00000001 00000000 20000100 00000001 00000000"), "1 0 0 00000000 1 2"),
+    ("eight unmatching patterns", EIGHT_UNMATCHING, "1 0 0 00000000 4 1"),
+    ("eight conditions", EIGHT_CONDITIONS, "1 0 0 00000000 4 1"),
+    ("eight of everything", LONGEST_ENTRY, "1 0 0 00000000 9 1"),
+    ("256 entries", entries_of_width_one(256, SMALL_ENTRY), "1 0 0 00000000 1 256"),
+    ("16,384 words", LONGEST, "1 0 0 00000000 9 85"),
+
+    # Number 1, always with place 0.
+    ("the empty table", [], "1 1 0 00000000"),
+    ("16,385 words, otherwise good", ONE_TOO_LONG, "1 1 0 00000000"),
+    ("16,385 words, no entries", table("10000001") + [0] * 16384, "1 1 0 00000000"),
+    ("16,384 words, no entries", table("10000001") + [0] * 16383, "1 2 1 00000000"),
+    ("257 entries", entries_of_width_one(257, SMALL_ENTRY), "1 1 0 00000000"),
+    ("257 entries said", table("11010002 20050210 00000002 00000002 30000001"), "1 1 0 00000000"),
+    ("4095 entries said", table("1fff0002"), "1 1 0 00000000"),
+    ("first word of kind 0", table("00010002 20050210 00000002 00000002 30000001"), "1 1 0 00000000"),
+    ("first word of kind 2", table("20010002 20050210 00000002 00000002 30000001"), "1 1 0 00000000"),
+    ("first word of kind 9", table("90010002 20050210 00000002 00000002 30000001"), "1 1 0 00000000"),
+    ("first word, bit 8 set", table("10010102 20050210 00000002 00000002 30000001"), "1 1 0 00000000"),
+    ("first word, bit 15 set", table("10018002 20050210 00000002 00000002 30000001"), "1 1 0 00000000"),
+    ("width 0", table("10010000 20050210 00000002 00000002 30000001"), "1 1 0 00000000"),
+    ("width 0, no entries", table("10000000"), "1 1 0 00000000"),
+    ("width 33", table("10010021 20050210 00000002 00000002 30000001"), "1 1 0 00000000"),
+    ("width 255", table("100100ff 20050210 00000002 00000002 30000001"), "1 1 0 00000000"),
+
+    # Number 2, table ends early: the table's length. Cut after each word.
+    ("cut after the first word", EVERY_KIND[:1], "1 2 1 00000000"),
+    ("cut after the entry", EVERY_KIND[:2], "1 2 2 00000000"),
+    ("cut after its mask", EVERY_KIND[:3], "1 2 3 00000000"),
+    ("cut after its value", EVERY_KIND[:4], "1 2 4 00000000"),
+    ("cut after the field", EVERY_KIND[:5], "1 2 5 00000000"),
+    ("cut after the condition", EVERY_KIND[:6], "1 2 6 00000000"),
+    ("cut after the condition's mask", EVERY_KIND[:7], "1 2 7 00000000"),
+    ("cut after the condition's value", EVERY_KIND[:8], "1 2 8 00000000"),
+    ("cut after the unmatching pattern", EVERY_KIND[:9], "1 2 9 00000000"),
+    ("cut after the unmatching pattern's mask", EVERY_KIND[:10], "1 2 10 00000000"),
+    ("one entry too many said", table("10020002 20050210 00000002 00000002 30000001"), "1 2 5 00000000"),
+    ("one condition too many said", table("10010002 20050211 00000002 00000002 30000001"), "1 2 5 00000000"),
+
+    # Number 2, words left over: the first of them.
+    ("a zero after the last entry", PRINTED + [0], "1 2 5 00000000"),
+    ("a good entry too many", PRINTED + PRINTED[1:], "1 2 5 00000000"),
+    ("two words left over", EVERY_KIND + [0, 0], "1 2 11 00000000"),
+    ("no entries said", table("10000002 20050210 00000002 00000002 30000001"), "1 2 1 00000000"),
+    ("a word after an empty table", table("10000001 00000000"), "1 2 1 00000000"),
+
+    # Number 2, kinds.
+    ("entry of kind 3", table("10010002 30050210 00000002 00000002 30000001"), "1 2 1 00000000"),
+    ("entry of kind 1", table("10010002 10050210 00000002 00000002 30000001"), "1 2 1 00000000"),
+    ("field of kind 4", table("10010002 20050210 00000002 00000002 40000001"), "1 2 4 00000000"),
+    ("condition of kind 5", table("10010002 20050211 00000002 00000002 30000001 50000000 00000001 00000001"), "1 2 5 00000000"),
+    ("condition of kind 3", table("10010002 20050211 00000002 00000002 30000001 30000001 00000001 00000001"), "1 2 5 00000000"),
+    ("unmatching pattern of kind 4", EVERY_KIND[:8] + table("40000000 00000002 00000000"), "1 2 8 00000000"),
+
+    # Number 2, spare bits: lowest and highest of each kind.
+    ("field, bit 16 set", table("10010002 20050210 00000002 00000002 30010001"), "1 2 4 00000000"),
+    ("field, bit 27 set", table("10010002 20050210 00000002 00000002 38000001"), "1 2 4 00000000"),
+    ("condition, bit 4 set", EVERY_KIND[:5] + table("40000011 00000001 00000001 50000000 00000002 00000000"), "1 2 5 00000000"),
+    ("condition, bit 27 set", EVERY_KIND[:5] + table("48000001 00000001 00000001 50000000 00000002 00000000"), "1 2 5 00000000"),
+    ("unmatching pattern, bit 0 set", EVERY_KIND[:8] + table("50000001 00000002 00000000"), "1 2 8 00000000"),
+    ("unmatching pattern, bit 27 set", EVERY_KIND[:8] + table("58000000 00000002 00000000"), "1 2 8 00000000"),
+
+    # Number 2, counts and lengths.
+    ("length 0", table("10010002 20050010 00000002 00000002 30000001"), "1 2 1 00000000"),
+    ("length over the width", table("10010002 20050310 00000002 00000002 30000001"), "1 2 1 00000000"),
+    ("length 255", table("10010020 2005ff10 00000002 00000002 30000001"), "1 2 1 00000000"),
+    ("9 fields", table("10010020 20002090 ffffff00 00000000 " + "30000001 " * 9), "1 2 1 00000000"),
+    ("9 conditions", table("10010001 20000109 00000001 00000000 " + "40000000 00000000 00000000 " * 9), "1 2 1 00000000"),
+    ("15 fields and 15 conditions", table("10010002 200502ff 00000002 00000002 30000001"), "1 2 1 00000000"),
+    ("9 unmatching patterns", table("10010001 20000101 00000001 00000000 40000009 00000000 00000000 "
+                                    + "50000000 00000000 00000000 " * 9), "1 2 4 00000000"),
+
+    # Number 3: the index of the mask.
+    ("opcode mask above the width", table("10010002 20050210 00000006 00000002 30000001"), "1 3 2 00000000"),
+    ("opcode mask and value above the width", table("10010002 20050210 80000002 80000002 30000001"), "1 3 2 00000000"),
+    ("opcode mask below a short entry's bits", table("10010002 20050100 00000001 00000000"), "1 3 2 00000000"),
+    ("opcode value outside the mask", table("10010002 20050210 00000002 00000003 30000001"), "1 3 2 00000000"),
+    ("value on an empty mask", table("10010002 20050210 00000000 00000001 30000002"), "1 3 2 00000000"),
+    ("condition's mask outside", EVERY_KIND[:6] + table("00000004 00000000 50000000 00000002 00000000"), "1 3 6 00000000"),
+    ("condition's value outside its mask", EVERY_KIND[:6] + table("00000001 00000002 50000000 00000002 00000000"),
+     "1 3 6 00000000"),
+    ("unmatching mask outside", EVERY_KIND[:9] + table("00000004 00000000"), "1 3 9 00000000"),
+    ("unmatching value outside its mask", EVERY_KIND[:9] + table("00000002 00000001"), "1 3 9 00000000"),
+
+    # Number 4: the index of the field, or of the entry if not covered.
+    ("field of width 0", table("10010002 20050210 00000002 00000002 30000000"), "1 4 4 00000000"),
+    ("field of width 0, everything covered", table("10010002 20050210 00000003 00000002 30000000"), "1 4 4 00000000"),
+    ("field above the width", table("10010002 20050210 00000002 00000002 30000201"), "1 4 4 00000000"),
+    ("field that begins inside and ends outside", table("10010002 20050210 00000000 00000000 30000003"), "1 4 4 00000000"),
+    ("field below a short entry's bits", table("10010002 20050110 00000000 00000000 30000002"), "1 4 4 00000000"),
+    ("field at 255 of width 255", table("10010002 20050210 00000002 00000002 3000ffff"), "1 4 4 00000000"),
+    ("field at 32 of width 1", table("10010020 20002010 fffffffe 00000000 30002001"), "1 4 4 00000000"),
+    ("field at 1 of width 255", table("10010020 20002010 00000001 00000000 300001ff"), "1 4 4 00000000"),
+    ("field over the mask", table("10010002 20050210 00000002 00000002 30000101"), "1 4 4 00000000"),
+    ("field over an earlier field", table("10010002 20050220 00000002 00000002 30000001 30000001"), "1 4 5 00000000"),
+    ("not covered, no field", table("10010002 20050200 00000002 00000002"), "1 4 1 00000000"),
+    ("not covered, with a field", table("10010002 20050210 00000000 00000000 30000001"), "1 4 1 00000000"),
+    ("an empty mask and no field", table("10010001 20000100 00000000 00000000"), "1 4 1 00000000"),
+    ("not covered in the second entry", table("10020002 20050200 00000003 00000002 20050200 00000001 00000000"),
+     "1 4 4 00000000"),
+
+    # Two faults: the first found, reading forward; of two at one word the lower.
+    ("a wrong head as the last word", table("10010002 30050210"), "1 2 1 00000000"),
+    ("9 unmatching patterns as the last word", EVERY_KIND[:5] + table("40000009"), "1 2 5 00000000"),
+    ("an unmatching pattern with a spare bit as the last word", EVERY_KIND[:8] + table("50000001"), "1 2 8 00000000"),
+    ("a field of width 0 as the last word, one more to come", table("10010002 20050220 00000002 00000002 30000000"),
+     "1 4 4 00000000"),
+    ("a bad mask without its value", table("10010002 20050210 00000004"), "1 2 3 00000000"),
+    ("a bad condition's mask without its value", EVERY_KIND[:6] + table("00000004"), "1 2 7 00000000"),
+    ("a bad mask with its value, then the end", table("10010002 20050210 00000004 00000000"), "1 3 2 00000000"),
+    ("a bad mask, and so not covered", table("10010002 20050200 00000004 00000000"), "1 3 2 00000000"),
+    ("field with a spare bit and of width 0", table("10010002 20050210 00000002 00000002 30010000"), "1 2 4 00000000"),
+    ("entry of kind 3 and length 0", table("10010002 30050010 00000002 00000002 30000001"), "1 2 1 00000000"),
+    ("first word wrong and words left over", table("10010100 20050210 00000002 00000002 30000001 00000000"), "1 1 0 00000000"),
+    ("second field of width 0, and so not covered", table("10010002 20050220 00000000 00000000 30000001 30000000"),
+     "1 4 5 00000000"),
+    ("not covered, then the end", table("10020002 20050200 00000002 00000002"), "1 4 1 00000000"),
+    ("not covered, then a bad condition", table("10010002 20050211 00000000 00000000 30000001 40000009"), "1 4 1 00000000"),
+    ("not covered, then words left over", table("10010002 20050200 00000002 00000002 00000000"), "1 4 1 00000000"),
+    ("a field fewer said: not covered, before its head is left over",
+     table("10010002 20050200 00000002 00000002 30000001"), "1 4 1 00000000"),
+    ("a field more said: the end before cover", table("10010003 20050320 00000004 00000000 30000001"), "1 2 5 00000000"),
+    ("a field more said: the next head before cover",
+     table("10020003 20050320 00000004 00000000 30000001 20050300 00000007 00000000"), "1 2 5 00000000"),
+    ("bad in the second entry, words left over", table("10020001 20000100 00000001 00000000 20000100 00000001 00000002 "
+                                                       "00000000"), "1 3 5 00000000"),
+    ("bad unmatching pattern, then a bad entry", EVERY_KIND[:8] + table("50000000 00000004 00000000 00000000"), "1 3 9 00000000"),
+]
+
+
+def lookup(words, word):
+    return ("lookup", words, word)
+
+
+def decode(words, word, buffer):
+    return ("decode", words, word, buffer)
+
+
+def encode(words, entry, values):
+    return ("encode", words, entry, values)
+
+
+EIGHTS = [0x88888888] * 8
+NINE = [0x10, 0x11, 0x12, 0x13, 0x14, 0x15, 0x16, 0x17, 0xFFFFFFFF]
+KEPT = "| " + " ".join(["88888888"] * 8)
+BAD = PRINTED + [0]
+
+# (what it shows, the question, the line). Entries A to G of the worked table are 0 to 6.
+SELECTION_EXAMPLES = [
+    # The twelve marked words of document 01.
+    ("0x00 A", lookup(WORKED, 0x00), "2 0 0 00000000 0"),
+    ("0x01 E", lookup(WORKED, 0x01), "2 0 0 00000000 4"),
+    ("0x02 F", lookup(WORKED, 0x02), "2 0 0 00000000 5"),
+    ("0x03 A", lookup(WORKED, 0x03), "2 0 0 00000000 0"),
+    ("0x11 A", lookup(WORKED, 0x11), "2 0 0 00000000 0"),
+    ("0x30 G", lookup(WORKED, 0x30), "2 0 0 00000000 6"),
+    ("0x40 B", lookup(WORKED, 0x40), "2 0 0 00000000 1"),
+    ("0x70 G", lookup(WORKED, 0x70), "2 0 0 00000000 6"),
+    ("0x80 C", lookup(WORKED, 0x80), "2 0 0 00000000 2"),
+    ("0x81 D", lookup(WORKED, 0x81), "2 0 0 00000000 3"),
+    ("0x82 nothing", lookup(WORKED, 0x82), "2 0 0 00000000 nothing"),
+    ("0xC0 nothing", lookup(WORKED, 0xC0), "2 0 0 00000000 nothing"),
+    ("0x100 has a bit at the width", lookup(WORKED, 0x100), "2 7 0 00000000"),
+
+    # Decoding and encoding of the worked table.
+    ("0x36 decodes to G, f 0, b 1, c 2", decode(WORKED, 0x36, EIGHTS),
+     "5 0 0 00000000 6 | 00000000 00000001 00000002 88888888 88888888 88888888 88888888 88888888"),
+    ("0x7b decodes to G, f 1, b 2, c 3, nine words lent", decode(WORKED, 0x7B, NINE),
+     "5 0 0 00000000 6 | 00000001 00000002 00000003 00000013 00000014 00000015 00000016 00000017 ffffffff"),
+    ("nothing writes nothing", decode(WORKED, 0x82, EIGHTS), "5 0 0 00000000 nothing " + KEPT),
+    ("seven words lent", decode(WORKED, 0x36, [1, 2, 3, 4, 5, 6, 7]),
+     "5 10 0 00000000 | 00000001 00000002 00000003 00000004 00000005 00000006 00000007"),
+    ("no word lent", decode(WORKED, 0x36, []), "5 10 0 00000000 |"),
+    ("no word lent comes before a high bit", decode(WORKED, 0x136, []), "5 10 0 00000000 |"),
+    ("a high bit", decode(WORKED, 0x136, EIGHTS), "5 7 0 00000000 " + KEPT),
+    ("A with 0, 0, 1 is E's word", encode(WORKED, 0, [0, 0, 1]), "6 13 0 00000001"),
+    ("A with 3, 0, 0 is G's word", encode(WORKED, 0, [3, 0, 0]), "6 13 0 00000030"),
+    ("A with 0, 0, 3", encode(WORKED, 0, [0, 0, 3]), "6 0 0 00000000 00000003"),
+    ("A with 2, 1, 3", encode(WORKED, 0, [2, 1, 3]), "6 0 0 00000000 00000027"),
+    ("C with 1, 2", encode(WORKED, 2, [1, 2]), "6 0 0 00000000 00000098"),
+    ("G with 1, 2, 3", encode(WORKED, 6, [1, 2, 3]), "6 0 0 00000000 0000007b"),
+    ("G with f 2", encode(WORKED, 6, [2, 2, 3]), "6 12 0 00000000"),
+    ("A with b 4", encode(WORKED, 0, [3, 4, 3]), "6 12 1 00000000"),
+    ("A with b 4 and c 4", encode(WORKED, 0, [3, 4, 4]), "6 12 1 00000000"),
+    ("A with c 2^32 - 1", encode(WORKED, 0, [3, 3, 0xFFFFFFFF]), "6 12 2 00000000"),
+    ("12 before 13", encode(WORKED, 0, [0, 4, 1]), "6 12 1 00000000"),
+    ("A with two values", encode(WORKED, 0, [0, 0]), "6 11 0 00000000"),
+    ("A with four values", encode(WORKED, 0, [0, 0, 0, 0]), "6 11 0 00000000"),
+    ("A with no value", encode(WORKED, 0, []), "6 11 0 00000000"),
+    ("11 before 12", encode(WORKED, 0, [9, 9]), "6 11 0 00000000"),
+    ("entry 7", encode(WORKED, 7, [0, 0, 0]), "6 11 0 00000000"),
+    ("entry 256", encode(WORKED, 256, [0, 0, 3]), "6 11 0 00000000"),
+    ("entry 2^32 - 1", encode(WORKED, 0xFFFFFFFF, []), "6 11 0 00000000"),
+
+    # Width 3, patterns 0-- and --0.
+    ("0-- and --0, word 0", lookup(ZERO_HIGH_ZERO_LOW, 0), "2 6 0 00000000"),
+    ("0-- and --0, word 2", lookup(ZERO_HIGH_ZERO_LOW, 2), "2 6 0 00000002"),
+    ("0-- and --0, word 1", lookup(ZERO_HIGH_ZERO_LOW, 1), "2 0 0 00000000 0"),
+    ("0-- and --0, word 4", lookup(ZERO_HIGH_ZERO_LOW, 4), "2 0 0 00000000 1"),
+    ("0-- and --0, word 5", lookup(ZERO_HIGH_ZERO_LOW, 5), "2 0 0 00000000 nothing"),
+    ("0-- and --0, word 8", lookup(ZERO_HIGH_ZERO_LOW, 8), "2 7 0 00000000"),
+    ("an ambiguous word decodes to 6", decode(ZERO_HIGH_ZERO_LOW, 2, EIGHTS), "5 6 0 00000002 " + KEPT),
+    ("7 before 6", decode(ZERO_HIGH_ZERO_LOW, 10, EIGHTS), "5 7 0 00000000 " + KEPT),
+    ("10 before 6", decode(ZERO_HIGH_ZERO_LOW, 2, [5]), "5 10 0 00000000 | 00000005"),
+    ("a made word that is ambiguous", encode(ZERO_HIGH_ZERO_LOW, 0, [2]), "6 13 0 00000002"),
+    ("a made word that is 0 and ambiguous", encode(ZERO_HIGH_ZERO_LOW, 1, [0]), "6 13 0 00000000"),
+    ("a made word that is not", encode(ZERO_HIGH_ZERO_LOW, 1, [2]), "6 0 0 00000000 00000004"),
+    ("0-0 added, word 0", lookup(WITH_THIRD, 0), "2 0 0 00000000 2"),
+    ("0-0 added, word 2", lookup(WITH_THIRD, 2), "2 0 0 00000000 2"),
+    ("0-0 added, word 1", lookup(WITH_THIRD, 1), "2 0 0 00000000 0"),
+    ("0-0 added, word 6", lookup(WITH_THIRD, 6), "2 0 0 00000000 1"),
+    ("more mask bits are not more specific: 0-- and -00, word 0", lookup(MORE_MASK_BITS, 0), "2 6 0 00000000"),
+    ("0-- and -00, word 4", lookup(MORE_MASK_BITS, 4), "2 0 0 00000000 1"),
+    ("0-- and -00, word 3", lookup(MORE_MASK_BITS, 3), "2 0 0 00000000 0"),
+
+    # The printed table, short entries, twins, a condition that excludes everything.
+    ("the printed table, word 0", lookup(PRINTED, 0), "2 0 0 00000000 nothing"),
+    ("the printed table, word 1", lookup(PRINTED, 1), "2 0 0 00000000 nothing"),
+    ("the printed table, word 3", lookup(PRINTED, 3), "2 0 0 00000000 0"),
+    ("the printed table, word 4", lookup(PRINTED, 4), "2 7 0 00000000"),
+    ("a short entry, bits below it set", lookup(SHORT, 0x9F), "2 0 0 00000000 0"),
+    ("a short entry's word has zeros below", encode(SHORT, 0, []), "6 0 0 00000000 00000080"),
+    ("a short entry's field", encode(SHORT, 1, [1]), "6 0 0 00000000 00000060"),
+    ("a short entry's field decoded", decode(SHORT, 0x7F, EIGHTS),
+     "5 0 0 00000000 1 | 00000001 88888888 88888888 88888888 88888888 88888888 88888888 88888888"),
+    ("a short entry keeps the words with bit 0 set", lookup(SHORT_AND_LONG, 0x81), "2 0 0 00000000 0"),
+    ("a short entry's made word belongs to the longer one", encode(SHORT_AND_LONG, 0, []), "6 13 0 00000080"),
+    ("twins are ambiguous", lookup(table("10020001 20000100 00000001 00000000 20000100 00000001 00000000"), 0),
+     "2 6 0 00000000"),
+    ("no entries", lookup(table("10000001"), 1), "2 0 0 00000000 nothing"),
+    ("an empty matching pattern excludes every word",
+     lookup(table("10010001 20000101 00000001 00000000 40000000 00000000 00000000"), 0), "2 0 0 00000000 nothing"),
+    ("a made word that selects nothing",
+     encode(table("10010001 20000101 00000001 00000001 40000000 00000000 00000000"), 0, []), "6 13 0 00000001"),
+    ("width 32, one field", decode(table("10010020 20002010 00000000 00000000 30000020"), 0xFEDCBA98, EIGHTS),
+     "5 0 0 00000000 0 | fedcba98 88888888 88888888 88888888 88888888 88888888 88888888 88888888"),
+    ("width 32, one field encoded", encode(table("10010020 20002010 00000000 00000000 30000020"), 0, [0xFEDCBA98]),
+     "6 0 0 00000000 fedcba98"),
+
+    # Each of eight unmatching patterns and each of eight conditions counts.
+    *((f"eight unmatching patterns, word {word}", lookup(EIGHT_UNMATCHING, word), "2 0 0 00000000 0")
+      for word in range(8, 16)),
+    *((f"eight conditions, word {word}", lookup(EIGHT_CONDITIONS, word), "2 0 0 00000000 nothing")
+      for word in range(8, 16)),
+    ("eight unmatching patterns, decoded", decode(EIGHT_UNMATCHING, 15, EIGHTS),
+     "5 0 0 00000000 0 | 00000007 88888888 88888888 88888888 88888888 88888888 88888888 88888888"),
+    ("eight fields", decode(LONGEST_ENTRY, 0x1CA, NINE),
+     "5 0 0 00000000 0 | 00000000 00000001 00000000 00000001 00000000 00000000 00000001 00000001 ffffffff"),
+    ("eight fields, encoded", encode(LONGEST_ENTRY, 0, [0, 1, 0, 1, 0, 0, 1, 1]), "6 0 0 00000000 000001ca"),
+    ("eight fields, the last too large", encode(LONGEST_ENTRY, 0, [0, 1, 0, 1, 0, 0, 1, 2]), "6 12 7 00000000"),
+    ("eight fields, satisfied", lookup(LONGEST_ENTRY, 0x101), "2 0 0 00000000 nothing"),
+    ("eight fields, nine values", encode(LONGEST_ENTRY, 0, [0, 1, 0, 1, 0, 0, 1, 1, 0]), "6 11 0 00000000"),
+
+    # A bad table comes before everything else.
+    ("bad table, high bit", lookup(BAD, 0xFFFFFFFF), "2 2 5 00000000"),
+    ("bad table, no word lent", decode(BAD, 0xFFFFFFFF, []), "5 2 5 00000000 |"),
+    ("bad table, a word lent", decode(BAD, 0, [0xABCDEF01]), "5 2 5 00000000 | abcdef01"),
+    ("bad table, no such entry", encode(BAD, 9, [9, 9]), "6 2 5 00000000"),
+    ("empty table, no such entry", encode([], 0, []), "6 1 0 00000000"),
+]
