@@ -1,10 +1,13 @@
 -- Input written apart, computed from the definitions. Assumes nothing.
+use Prim.Native.Nat.{ℕ}
 use mathlib.Core.Path.{_≡_, refl}
-use mathlib.Core.List.{[], _∷_}
+use mathlib.Core.List.{List, [], _∷_}
 use Rattle.input.specs.Bytes.{wordOf, wordsOf, written, filled}
-use Rattle.input.specs.Requests.{runAt, readOf, requestOf, requestAt}
+use Rattle.input.specs.Requests.{runAt, wordAfter, tableWordAt, withRun, runAfter, tableWordRunAt, readOf, lookupOf, decodeOf, encodeOf, requestOf, requestAt}
+use Rattle.input.specs.declared.Part.{Part}
 use Rattle.input.specs.declared.Run.the-variants.{Whole, Short}
-use Rattle.input.specs.declared.Request.the-variants.{Read, Stopped}
+use Rattle.input.specs.declared.Request.{Request}
+use Rattle.input.specs.declared.Request.the-variants.{Read, Lookup, Decode, Encode, Stopped}
 
 -- a word and one byte more: low byte first, and the rest left out
 words-are : wordsOf (0x10 ∷ 0x32 ∷ 0x54 ∷ 0x76 ∷ 0x98 ∷ []) ≡ 0x76543210 ∷ []
@@ -16,28 +19,79 @@ buffer-is : filled (1 ∷ 0 ∷ 0 ∷ 0 ∷ 5 ∷ []) (7 ∷ 8 ∷ []) ≡ 1 ∷
 unfolding wordOf wordsOf written filled
 buffer-is = refl
 
+-- what is asked, with every definition open
+opened : List ℕ → ℕ → Request
+unfolding runAt wordAfter tableWordAt withRun runAfter tableWordRunAt readOf lookupOf decodeOf encodeOf requestOf requestAt
+opened ws at = requestAt ws at
+
+abbrev part : ℕ → ℕ → Part
+part first after = record { first = first; after = after }
+
 -- a run of two words, an empty run at the end, a count that is too large by one, and the end itself
-run-is : runAt (2 ∷ 9 ∷ 9 ∷ 0 ∷ []) 0 ≡ Whole 1 3
-unfolding runAt
+run-is : runAt (2 ∷ 9 ∷ 9 ∷ 0 ∷ []) 0 ≡ Whole (part 1 3)
+unfolding opened
 run-is = refl
 
-empty-is : runAt (2 ∷ 9 ∷ 9 ∷ 0 ∷ []) 3 ≡ Whole 4 4
-unfolding runAt
+empty-is : runAt (2 ∷ 9 ∷ 9 ∷ 0 ∷ []) 3 ≡ Whole (part 4 4)
+unfolding opened
 empty-is = refl
 
 short-is : runAt (3 ∷ 9 ∷ 9 ∷ []) 0 ≡ Short
-unfolding runAt
+unfolding opened
 short-is = refl
 
 past-is : runAt (0 ∷ []) 1 ≡ Short
-unfolding runAt
+unfolding opened
 past-is = refl
 
 -- a table of one word to read; a number that no request has
-read-is : requestAt (1 ∷ 1 ∷ 9 ∷ []) 0 ≡ Read 2 3
-unfolding runAt readOf requestOf requestAt
+read-is : requestAt (1 ∷ 1 ∷ 9 ∷ []) 0 ≡ Read (part 2 3)
+unfolding opened
 read-is = refl
 
 unknown-is : requestAt (0 ∷ 1 ∷ 9 ∷ []) 0 ≡ Stopped
-unfolding runAt readOf requestOf requestAt
+unfolding opened
 unknown-is = refl
+
+-- word 7 to look up in a table of two words, after a request to read; without the word; with a count that takes the word for the table's
+lookup-is : requestAt (1 ∷ 0 ∷ 2 ∷ 2 ∷ 8 ∷ 9 ∷ 7 ∷ []) 2 ≡ Lookup (part 4 6) 7
+unfolding opened
+lookup-is = refl
+
+lookup-cut : requestAt (2 ∷ 2 ∷ 8 ∷ 9 ∷ []) 0 ≡ Stopped
+unfolding opened
+lookup-cut = refl
+
+lookup-long : requestAt (2 ∷ 3 ∷ 8 ∷ 9 ∷ 7 ∷ []) 0 ≡ Stopped
+unfolding opened
+lookup-long = refl
+
+-- word 7 to decode into a buffer of two words; without the buffer's last word, its count, or the word
+decode-is : requestAt (5 ∷ 1 ∷ 9 ∷ 7 ∷ 2 ∷ 3 ∷ 4 ∷ []) 0 ≡ Decode (part 2 3) 7 (part 5 7)
+unfolding opened
+decode-is = refl
+
+decode-cut : requestAt (5 ∷ 1 ∷ 9 ∷ 7 ∷ 2 ∷ 3 ∷ []) 0 ≡ Stopped
+unfolding opened
+decode-cut = refl
+
+decode-no-buffer : requestAt (5 ∷ 1 ∷ 9 ∷ 7 ∷ []) 0 ≡ Stopped
+unfolding opened
+decode-no-buffer = refl
+
+decode-no-word : requestAt (5 ∷ 1 ∷ 9 ∷ []) 0 ≡ Stopped
+unfolding opened
+decode-no-word = refl
+
+-- entry 7 to encode with no values; without their count; with the largest count
+encode-is : requestAt (6 ∷ 1 ∷ 9 ∷ 7 ∷ 0 ∷ []) 0 ≡ Encode (part 2 3) 7 (part 5 5)
+unfolding opened
+encode-is = refl
+
+encode-cut : requestAt (6 ∷ 1 ∷ 9 ∷ 7 ∷ []) 0 ≡ Stopped
+unfolding opened
+encode-cut = refl
+
+encode-long : requestAt (6 ∷ 1 ∷ 9 ∷ 7 ∷ 0xffffffff ∷ 3 ∷ 4 ∷ []) 0 ≡ Stopped
+unfolding opened
+encode-long = refl

@@ -47,8 +47,16 @@ pub filled-all : (bytes before out : List ℕ) (i n : ℕ) → n ≡ min (length
 unfolding written filled
 filled-all bytes before out i n e q h = record { buffer = rw (← e, ← q) h; number = e }
 
--- the words written are within the buffer
-pub fills-within : {bytes before after : List ℕ} {answer : ℕ} → Fills bytes before after answer → answer ≤ length after
-unfolding written filled
-fills-within {bytes} {before} f =
-    rw (f .buffer, f .number) (simp (length-append, length-take, length-drop) (omega (arith, words-length bytes)))
+-- a buffer keeps its length, and the words written are within it
+module _ {bytes before after : List ℕ} {answer : ℕ} (f : Fills bytes before after answer) where
+  fills-size : length after ≡ length before
+  unfolding written filled
+  fills-size = rw (f .buffer) (simp (length-append, length-take, length-drop) (omega (arith, words-length bytes)))
+
+  pub fills-within : answer ≤ length after
+  unfolding written
+  fills-within = rw (f .number, fills-size) (omega arith)
+
+  -- so they are not more than the buffer held
+  pub fills-part : length (take answer after) ≤ length before
+  fills-part = simp length-take (omega (arith, fills-size))

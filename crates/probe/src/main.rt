@@ -1,16 +1,25 @@
 // Answers the requests on standard input, each by one line, until the input ends or a request stops
 // it. The libraries decide what a request is, what its answer is and how a number is written.
+use input::Part;
 use input::Request;
 use libc::STDIN_FILENO;
 use libc::STDOUT_FILENO;
+use operands::Decoding;
+use operands::Encoding;
+use selection::Selected;
 use table::Answer;
+ghost use mathlib.Core.List.{_++_};
+ghost use mathlib.Core.Path.{_≡_};
 ghost use Prim.Native.Nat.{_≤_, _<_, _^_};
-ghost use lib.ListN.{length};
+ghost use lib.ListN.{length, drop};
 
 // The most that is taken from standard input.
 const MOST_BYTES: usize = 1048576;
 
 const MOST_WORDS: usize = 262144;
+
+// The room that a word of a buffer takes on a line, with the line's end after it.
+const WORD_AND_END: usize = 10;
 
 // A space and a number.
 fn put_number(line: &mut [u8], at: usize, n: u32) -> usize
@@ -41,12 +50,46 @@ fn put_head(line: &mut [u8], request: u32, number: u32, place: u32, word: u32) -
     put_word(line, third, word)
 }
 
+// The line of an entry that was found.
+fn put_entry(line: &mut [u8], request: u32, entry: u32) -> usize
+    ensures { λ r. ⌜ r ≤ length (now (line .exit)) ⌝ }
+{
+    let head = put_head(line, request, 0, 0, 0);
+    put_number(line, head, entry)
+}
+
+// The line of the answer nothing.
+fn put_nothing(line: &mut [u8], request: u32) -> usize
+    ensures { λ r. ⌜ r ≤ length (now (line .exit)) ⌝ }
+{
+    let head = put_head(line, request, 0, 0, 0);
+    text::put_bytes(line, head, b" nothing")
+}
+
 // Ends a line and writes it. Where it cannot be written there is nobody to tell.
 fn write_line(line: &mut [u8], at: usize)
     requires { ⌜ at ≤ length (now line) ⌝ }
 {
     let end = text::put_byte(line, at, b'\n');
     io::write_all(STDOUT_FILENO, &line[..end]);
+}
+
+// Puts words, each after a space. What the line holds is written out whenever it would get too long.
+fn write_words(line: &mut [u8], at: usize, words: &[u32]) -> usize
+    requires { ⌜ at ≤ length (now line) ⌝ }
+    ensures { λ r. ⌜ r ≤ length (now (line .exit)) ⌝ }
+{
+    let mut next = at;
+    let mut i = 0;
+    while i < words.len() {
+        if line.len() - next < WORD_AND_END {
+            io::write_all(STDOUT_FILENO, &line[..next]);
+            next = 0;
+        }
+        next = put_word(line, next, words[i]);
+        i += 1;
+    }
+    next
 }
 
 // Reads a table and puts what comes of it.
@@ -72,6 +115,88 @@ fn answer_read(words: &[u32]) {
     write_line(&mut line, end);
 }
 
+// Looks a word up and puts what comes of it.
+fn put_lookup(line: &mut [u8], words: &[u32], word: u32) -> usize
+    ensures { λ r. ⌜ r ≤ length (now (line .exit)) ⌝ }
+{
+    match selection::lookup(words, word) {
+        Selected::Entry(entry) => put_entry(line, 2, entry),
+        Selected::Nothing => put_nothing(line, 2),
+        Selected::Ambiguous(w) => put_head(line, 2, 6, 0, w),
+        Selected::TooWide => put_head(line, 2, 7, 0, 0),
+        Selected::Refused(number, place) => put_head(line, 2, number, place, 0),
+    }
+}
+
+// Request 2.
+fn answer_lookup(words: &[u32], word: u32) {
+    let mut line = [0u8; 64];
+    let end = put_lookup(&mut line, words, word);
+    write_line(&mut line, end);
+}
+
+// Decodes a word into a buffer and puts what comes of it, but for the buffer.
+fn put_decoding(line: &mut [u8], words: &[u32], word: u32, out: &mut [u32]) -> usize
+    ensures { λ r. ⌜ r ≤ length (now (line .exit)) ⌝ }
+{
+    match operands::decode(words, word, out) {
+        Decoding::Entry(entry, _) => put_entry(line, 5, entry),
+        Decoding::Nothing => put_nothing(line, 5),
+        Decoding::Ambiguous(w) => put_head(line, 5, 6, 0, w),
+        Decoding::TooWide => put_head(line, 5, 7, 0, 0),
+        Decoding::NoRoom => put_head(line, 5, 10, 0, 0),
+        Decoding::Refused(number, place) => put_head(line, 5, number, place, 0),
+    }
+}
+
+// Copies words to the beginning of a longer run.
+fn copy(from: &[u32], out: &mut [u32])
+    requires { ⌜ length (now from) ≤ length (now out) ⌝ }
+    ensures { λ r. ⌜ now (out .exit) ≡ now (from .entry) ++ drop (length (now (from .entry))) (now (out .entry)) ⌝ }
+{
+    let mut i = 0;
+    while i < from.len() {
+        out[i] = from[i];
+        i += 1;
+    }
+}
+
+// Request 5. The buffer is copied, since the words that it came with are lent at the same time.
+fn answer_decode(words: &[u32], word: u32, given: &[u32], room: &mut [u32])
+    requires { ⌜ length (now given) ≤ length (now room) ⌝ }
+{
+    let n = given.len();
+    copy(given, room);
+    let mut line = io::buffer();
+    let head = put_decoding(&mut line, words, word, &mut room[..n]);
+    let bar = text::put_bytes(&mut line, head, b" |");
+    let end = write_words(&mut line, bar, &room[..n]);
+    write_line(&mut line, end);
+}
+
+// Encodes values and puts what comes of it.
+fn put_encoding(line: &mut [u8], words: &[u32], entry: u32, values: &[u32]) -> usize
+    ensures { λ r. ⌜ r ≤ length (now (line .exit)) ⌝ }
+{
+    match operands::encode(words, entry, values) {
+        Encoding::Word(w) => {
+            let head = put_head(line, 6, 0, 0, 0);
+            put_word(line, head, w)
+        }
+        Encoding::NotSelected(w) => put_head(line, 6, 13, 0, w),
+        Encoding::Misfit(index) => put_head(line, 6, 12, index, 0),
+        Encoding::NoEntry => put_head(line, 6, 11, 0, 0),
+        Encoding::Refused(number, place) => put_head(line, 6, number, place, 0),
+    }
+}
+
+// Request 6.
+fn answer_encode(words: &[u32], entry: u32, values: &[u32]) {
+    let mut line = [0u8; 64];
+    let end = put_encoding(&mut line, words, entry, values);
+    write_line(&mut line, end);
+}
+
 // The line of a request that stops the program.
 fn answer_stopped(at: u32) {
     let mut line = [0u8; 64];
@@ -80,16 +205,38 @@ fn answer_stopped(at: u32) {
     write_line(&mut line, end);
 }
 
+// The words of a part.
+fn words_in(ws: &[u32], part: Part) -> &[u32]
+    requires { ⌜ (part .first ≤ part .after) × (part .after ≤ length (now ws)) ⌝ }
+    ensures { λ r. ⌜ length (now r) ≤ length (now (ws .entry)) ⌝ }
+{
+    let first = part.first;
+    let after = part.after;
+    &ws[first..after]
+}
+
 // Answers the request at an index, and gives the index to go on at: the next request's, or the end
-// where this one stops the program.
-fn answer(ws: &[u32], at: usize, end: usize) -> usize
-    requires { ⌜ (at < end) × (end < 2 ^ 32) ⌝ }
+// where this one stops the program. The room takes a copy of any part of the words.
+fn answer(ws: &[u32], at: usize, end: usize, room: &mut [u32]) -> usize
+    requires { ⌜ (at < end) × (end < 2 ^ 32) × (length (now ws) ≤ length (now room)) ⌝ }
     ensures { λ r. ⌜ at < r ⌝ }
 {
     match input::request_at(ws, at) {
-        Request::Read(first, after) => {
-            answer_read(&ws[first..after]);
-            after
+        Request::Read(table) => {
+            answer_read(words_in(ws, table));
+            table.after
+        }
+        Request::Lookup(table, word) => {
+            answer_lookup(words_in(ws, table), word);
+            table.after + 1
+        }
+        Request::Decode(table, word, buffer) => {
+            answer_decode(words_in(ws, table), word, words_in(ws, buffer), room);
+            buffer.after
+        }
+        Request::Encode(table, entry, values) => {
+            answer_encode(words_in(ws, table), entry, words_in(ws, values));
+            values.after
         }
         Request::Stopped => {
             answer_stopped(at as u32);
@@ -99,12 +246,12 @@ fn answer(ws: &[u32], at: usize, end: usize) -> usize
 }
 
 // Answers every request that begins before the end.
-fn answer_all(ws: &[u32], end: usize)
-    requires { ⌜ end < 2 ^ 32 ⌝ }
+fn answer_all(ws: &[u32], end: usize, room: &mut [u32])
+    requires { ⌜ (end < 2 ^ 32) × (length (now ws) ≤ length (now room)) ⌝ }
 {
     let mut at = 0;
     while at < end {
-        at = answer(ws, at, end);
+        at = answer(ws, at, end, room);
     }
 }
 
@@ -117,7 +264,8 @@ fn main() {
         return;
     }
     let mut space = [0u32; MOST_WORDS];
+    let mut room = [0u32; MOST_WORDS];
     let whole = input::words_of(&bytes[..got], &mut space);
     // bytes that make no whole word count as one more, with which no request is whole
-    answer_all(&space[..whole], (got + 3) / 4);
+    answer_all(&space[..whole], (got + 3) / 4, &mut room);
 }

@@ -14,7 +14,7 @@ use Rattle.table.specs.Worked.{printed, worked}
 use Rattle.table.proofs.Laws.{checks}
 
 -- what reading a table says, with every definition open
-pub opened : List ℕ → Outcome Table
+unfoldable pub opened : List ℕ → Outcome Table
 unfolding part run includes fieldBits fieldsAt unmatchingAt conditionsAt conditionsEnd entriesAt _then_ need patternCheck unmatchingCheck unmatchingsCheck conditionCheck conditionsCheck fieldRule fieldCheck fieldsCheck headCheck entryCheck entriesCheck firstCheck tableCheck
 opened ws = readTable ws
 

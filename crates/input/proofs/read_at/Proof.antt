@@ -8,19 +8,19 @@ use Rattle.input.proofs.read_at.Tie as tie
 run-at-requires : tie.Need-run-at-requires
 run-at-requires c κs = search needs
 
-enum-known-first : tie.Need-enum-known-first
-enum-known-first c = search needs
+enum-known-table : tie.Need-enum-known-table
+enum-known-table c = search needs
 
 enum-told : tie.Need-enum-told
 enum-told c = search needs
 
 returns : tie.Need-returns
 unfolding readOf
-returns c = sym (ap readOf (sym (c .before .before .before .run-at .ensures) ∙ c .before .first .given .1))
+returns c = sym (ap readOf (sym (c .before .before .before .run-at .ensures) ∙ c .before .table .given .1))
 
 returns-2 : tie.Need-returns-2
 unfolding readOf
 returns-2 c = sym (ap readOf (sym (c .before .before .run-at .ensures) ∙ c .enum-told .given .1))
 
 pub read-at-spec : {M : Type 1} → statement M
-read-at-spec = tie.close (tie.spec run-at-requires enum-known-first enum-told returns returns-2)
+read-at-spec = tie.close (tie.spec run-at-requires enum-known-table enum-told returns returns-2)

@@ -21,12 +21,33 @@ add-next c = search needs
 read-at-requires : tie.Need-read-at-requires
 read-at-requires c κs = search needs
 
+lookup-at-requires : tie.Need-lookup-at-requires
+lookup-at-requires c κs = search needs
+
+decode-at-requires : tie.Need-decode-at-requires
+decode-at-requires c κs = search needs
+
+encode-at-requires : tie.Need-encode-at-requires
+encode-at-requires c κs = search needs
+
 returns-2 : tie.Need-returns-2
 unfolding requestOf
 returns-2 c = c .read-at .ensures ∙ request-known _ _ (c .before .match .keys1)
 
 returns-3 : tie.Need-returns-3
-returns-3 c = request-unknown _ _ (c .match .rest .1)
+unfolding requestOf
+returns-3 c = c .lookup-at .ensures ∙ request-known _ _ (c .before .match .keys2)
+
+returns-4 : tie.Need-returns-4
+unfolding requestOf
+returns-4 c = c .decode-at .ensures ∙ request-known _ _ (c .before .match .keys3)
+
+returns-5 : tie.Need-returns-5
+unfolding requestOf
+returns-5 c = c .encode-at .ensures ∙ request-known _ _ (c .before .match .keys4)
+
+returns-6 : tie.Need-returns-6
+returns-6 c = let r = c .match .rest in request-unknown _ _ (r .0 .0 .0 .1) (r .0 .0 .1) (r .0 .1) (r .1)
 
 pub request-at-spec : {M : Type 1} → statement M
 request-at-spec =
@@ -37,5 +58,11 @@ request-at-spec =
     shared-slice-read-number
     add-next
     read-at-requires
+    lookup-at-requires
+    decode-at-requires
+    encode-at-requires
     returns-2
-    returns-3)
+    returns-3
+    returns-4
+    returns-5
+    returns-6)

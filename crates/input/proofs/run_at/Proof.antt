@@ -26,8 +26,8 @@ sub-if2 c = search needs
 returns-2 : tie.Need-returns-2
 returns-2 c = run-short _ _ (omega arith)
 
-add-t5 : tie.Need-add-t5
-add-t5 c = search needs
+add-after : tie.Need-add-after
+add-after c = search needs
 
 returns-3 : tie.Need-returns-3
 returns-3 c = run-whole _ _ (omega arith)
@@ -43,5 +43,5 @@ run-at-spec =
     add-first
     sub-if2
     returns-2
-    add-t5
+    add-after
     returns-3)

@@ -2,30 +2,57 @@
 use mathlib.Core.Path.{sym, _∙_}
 use native.Mathlib.Omega.{arith}
 use borrow.Author.Needs.{needs}
-use Rattle.input.proofs.Asking.{read-within}
+use Rattle.input.proofs.Asking.{read-within, lookup-within, decode-within, encode-within}
 use Rattle.probe.proofs.answer.Statement.{statement}
 use Rattle.probe.proofs.answer.Tie as tie
 
 request-at-requires : tie.Need-request-at-requires
 request-at-requires c κs = search needs
 
-enum-known-first : tie.Need-enum-known-first
-enum-known-first c = search needs
+enum-known-table : tie.Need-enum-known-table
+enum-known-table c = search needs
 
-mul-answer-read : tie.Need-mul-answer-read
-mul-answer-read c = let w = read-within _ _ (sym (c .before .before .before .request-at .ensures) ∙ c .before .first .given .1) in omega (arith, c .before .before .before .before .before .good .0)
-
-sub-answer-read : tie.Need-sub-answer-read
-sub-answer-read c = read-within _ _ (sym (c .before .before .before .request-at .ensures) ∙ c .before .first .given .1) .1
-
-part-answer-read-start : tie.Need-part-answer-read-start
-part-answer-read-start c = read-within _ _ (sym (c .before .before .before .request-at .ensures) ∙ c .before .first .given .1) .1
-
-part-answer-read-end : tie.Need-part-answer-read-end
-part-answer-read-end c = read-within _ _ (sym (c .before .before .before .request-at .ensures) ∙ c .before .first .given .1) .2
+words-in-requires : tie.Need-words-in-requires
+words-in-requires c κs = let l = read-within _ _ (sym (c .before .before .before .request-at .ensures) ∙ c .before .table .given .1) in (l .order, l .inside)
 
 answer-read-requires : tie.Need-answer-read-requires
 answer-read-requires c κs = search needs
+
+enum-known-table-2 : tie.Need-enum-known-table-2
+enum-known-table-2 c = search needs
+
+words-in-requires-2 : tie.Need-words-in-requires-2
+words-in-requires-2 c κs = let l = lookup-within _ _ (sym (c .before .before .before .request-at .ensures) ∙ c .before .table2 .given .1) .0 in (l .order, l .inside)
+
+answer-lookup-requires : tie.Need-answer-lookup-requires
+answer-lookup-requires c κs = search needs
+
+add-result : tie.Need-add-result
+add-result c = let l = lookup-within _ _ (sym (c .before .before .before .before .before .before .request-at .ensures) ∙ c .before .before .before .before .table2 .given .1) in omega arith
+
+enum-known-table-3 : tie.Need-enum-known-table-3
+enum-known-table-3 c = search needs
+
+words-in-requires-3 : tie.Need-words-in-requires-3
+words-in-requires-3 c κs = let l = decode-within _ _ (sym (c .before .before .before .request-at .ensures) ∙ c .before .table3 .given .1) .0 in (l .order, l .inside)
+
+words-in-requires-4 : tie.Need-words-in-requires-4
+words-in-requires-4 c κs = let l = decode-within _ _ (sym (c .before .before .before .before .request-at .ensures) ∙ c .before .before .table3 .given .1) .1 in (l .order, l .inside)
+
+answer-decode-requires : tie.Need-answer-decode-requires
+answer-decode-requires c κs = search needs
+
+enum-known-table-4 : tie.Need-enum-known-table-4
+enum-known-table-4 c = search needs
+
+words-in-requires-5 : tie.Need-words-in-requires-5
+words-in-requires-5 c κs = let l = encode-within _ _ (sym (c .before .before .before .request-at .ensures) ∙ c .before .table4 .given .1) .0 in (l .order, l .inside)
+
+words-in-requires-6 : tie.Need-words-in-requires-6
+words-in-requires-6 c κs = let l = encode-within _ _ (sym (c .before .before .before .before .request-at .ensures) ∙ c .before .before .table4 .given .1) .1 in (l .order, l .inside)
+
+answer-encode-requires : tie.Need-answer-encode-requires
+answer-encode-requires c κs = search needs
 
 enum-told : tie.Need-enum-told
 enum-told c = search needs
@@ -37,24 +64,49 @@ answer-stopped-requires : tie.Need-answer-stopped-requires
 answer-stopped-requires c κs = search needs
 
 returns : tie.Need-returns
-returns c = let w = read-within _ _ (sym (c .before .before .before .before .before .request-at .ensures) ∙ c .before .before .before .first .given .1) in omega arith
+returns c = let l = read-within _ _ (sym (c .before .before .before .before .before .request-at .ensures) ∙ c .before .before .before .table .given .1) in omega arith
 
 returns-2 : tie.Need-returns-2
-returns-2 c = search needs
+returns-2 c = let l = lookup-within _ _ (sym (c .before .before .before .before .before .before .request-at .ensures) ∙ c .before .before .before .before .table2 .given .1) in omega arith
+
+same-length : tie.Need-same-length
+same-length c = search needs
+
+returns-3 : tie.Need-returns-3
+returns-3 c = let l = decode-within _ _ (sym (c .before .before .before .before .before .before .before .before .before .request-at .ensures) ∙ c .before .before .before .before .before .before .before .table3 .given .1) in omega arith
+
+returns-4 : tie.Need-returns-4
+returns-4 c = let l = encode-within _ _ (sym (c .before .before .before .before .before .before .request-at .ensures) ∙ c .before .before .before .before .table4 .given .1) in omega arith
+
+returns-5 : tie.Need-returns-5
+returns-5 c = search needs
 
 pub answer-spec : {M : Type 1} → statement M
 answer-spec =
     tie.close
     (tie.spec
     request-at-requires
-    enum-known-first
-    mul-answer-read
-    sub-answer-read
-    part-answer-read-start
-    part-answer-read-end
+    enum-known-table
+    words-in-requires
     answer-read-requires
+    enum-known-table-2
+    words-in-requires-2
+    answer-lookup-requires
+    add-result
+    enum-known-table-3
+    words-in-requires-3
+    words-in-requires-4
+    answer-decode-requires
+    enum-known-table-4
+    words-in-requires-5
+    words-in-requires-6
+    answer-encode-requires
     enum-told
     cast-answer-stopped
     answer-stopped-requires
     returns
-    returns-2)
+    returns-2
+    same-length
+    returns-3
+    returns-4
+    returns-5)

@@ -1,14 +1,16 @@
 -- `probe::answer_all` is safe and ends: each answer goes on at a larger index. Assumes nothing.
 use Prim.Native.Nat.{_-_}
+use mathlib.Core.Path.{_≡_}
+use lib.ListN.{length}
 use borrow.Author.Needs.{needs}
 use Rattle.probe.proofs.answer_all.Statement.{statement}
 use Rattle.probe.proofs.answer_all.Tie as tie
 
 abbrev Inv-loop : tie.InvT-loop
-Inv-loop ws end at₀ at = Unit {0}
+Inv-loop ws end room₀ at₀ room at = length room ≡ length room₀
 
 abbrev μ-loop : tie.MeasureT-loop
-μ-loop ws end at₀ at = end - at
+μ-loop ws end room₀ at₀ room at = end - at
 
 loop-holds : tie.Need-loop-holds Inv-loop μ-loop
 loop-holds c = search needs
@@ -22,9 +24,13 @@ loop-less c = search needs
 loop-again : tie.Need-loop-again Inv-loop μ-loop
 loop-again c = search needs
 
+same-length : tie.Need-same-length Inv-loop μ-loop
+same-length c = search needs
+
 returns : tie.Need-returns Inv-loop μ-loop
 returns c = search needs
 
 pub answer-all-spec : {M : Type 1} → statement M
 answer-all-spec =
-    tie.close (tie.spec Inv-loop μ-loop loop-holds answer-requires loop-less loop-again returns)
+    tie.close
+    (tie.spec Inv-loop μ-loop loop-holds answer-requires loop-less loop-again same-length returns)

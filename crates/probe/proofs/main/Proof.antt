@@ -2,10 +2,10 @@
 use Prim.Native.Nat.{ℕ}
 use mathlib.Core.Path.{sym}
 use native.Mathlib.Omega.{arith}
-use lib.Seq.{length-take-le}
 use lib.ListN.{length-replicate}
+use lib.Seq.{length-take-le}
 use borrow.Author.Needs.{needs}
-use Rattle.input.proofs.Words.{fills-within}
+use Rattle.input.proofs.Words.{fills-within, fills-part}
 use Rattle.probe.proofs.main.Statement.{statement}
 use Rattle.probe.proofs.main.Tie as tie
 
@@ -42,8 +42,11 @@ slice-aggregate-answer-all c = sym (length-take-le _ _ (fills-within (c .before 
 add-answer-all : tie.Need-add-answer-all
 add-answer-all c = omega (arith, c .before .before .before .before .before .if1 .left)
 
+slice-aggregate-answer-all-2 : tie.Need-slice-aggregate-answer-all-2
+slice-aggregate-answer-all-2 c = sym (length-replicate {0} {A = ℕ} 262144 0)
+
 answer-all-requires : tie.Need-answer-all-requires
-answer-all-requires c κs = omega (arith, c .before .before .before .before .before .if1 .left)
+answer-all-requires c κs = (omega (arith, c .before .before .before .before .before .before .if1 .left), fills-part (c .before .before .before .words-of .ensures))
 
 returns-2 : tie.Need-returns-2
 returns-2 c = search needs
@@ -63,5 +66,6 @@ main-spec =
     array-share-prefix-space
     slice-aggregate-answer-all
     add-answer-all
+    slice-aggregate-answer-all-2
     answer-all-requires
     returns-2)

@@ -1,0 +1,9 @@
+pub mod Cover
+pub mod Inverse
+pub mod Coding
+pub mod Answering
+pub mod Confirming
+pub mod Looking
+pub mod Below
+pub mod Demand
+pub mod Examples

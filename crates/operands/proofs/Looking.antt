@@ -1,0 +1,51 @@
+-- Lookup's answer on a table that reads, by what selection says. Assumes nothing.
+use mathlib.Core.Path.{_≡_, refl, sym, ap, _∙_}
+use mathlib.Core.Logic.{_↔_}
+use mathlib.Core.List.{List}
+use mathlib.Core.Option.{Option, none, some}
+use Prim.Native.Nat.{ℕ, _^_, _<_}
+use native.Mathlib.Omega.{arith}
+use lib.Dec.{ltb}
+use borrow.Author.Tests.{lt-ltb}
+use Rattle.table.specs.Outcome.{Outcome, result, refused}
+use Rattle.table.specs.Table.{Entry, tableOf}
+use Rattle.table.specs.Check.{fine, tableCheck, readTable}
+use Rattle.selection.specs.Selection.{Choice, names, nothing, ambiguous, select}
+use Rattle.selection.specs.Lookup.{lookedUp, lookOf}
+use Rattle.selection.proofs.Formula.{Selects, Claimed, Unclaimed, names-exactly, nothing-exactly, ambiguous-exactly}
+
+-- what is looked up tells the choice
+chose-entry : (w e : ℕ) (c : Choice) → lookedUp w c ≡ result (some e) → c ≡ names e
+chose-entry w e (names i) h = let q : i ≡ e = cc in ap names q
+chose-entry w e nothing h = absurd (let z : _≡_ {A = ℕ} 0 1 = cc in omega arith)
+chose-entry w e ambiguous h = absurd (let z : _≡_ {A = ℕ} 0 1 = cc in omega arith)
+
+chose-nothing : (w : ℕ) (c : Choice) → lookedUp w c ≡ result none → c ≡ nothing
+chose-nothing w (names i) h = absurd (let z : _≡_ {A = ℕ} 0 1 = cc in omega arith)
+chose-nothing w nothing h = refl
+chose-nothing w ambiguous h = absurd (let z : _≡_ {A = ℕ} 0 1 = cc in omega arith)
+
+chose-ambiguous : (w : ℕ) (c : Choice) → lookedUp w c ≡ refused 6 0 w → c ≡ ambiguous
+chose-ambiguous w (names i) h = absurd (let z : _≡_ {A = ℕ} 0 1 = cc in omega arith)
+chose-ambiguous w nothing h = absurd (let z : _≡_ {A = ℕ} 0 1 = cc in omega arith)
+chose-ambiguous w ambiguous h = refl
+
+module _ (ws : List ℕ) (reads : tableCheck ws ≡ fine) (w : ℕ) (of-width : w < 2 ^ (tableOf ws .width)) where
+  looks : lookOf (readTable ws) w ≡ lookedUp w (select (tableOf ws .entries) w)
+  unfolding lookOf
+  looks = rw (reads, lt-ltb w _ of-width)
+
+  pub looks-entry : (e : ℕ) → (lookOf (readTable ws) w ≡ result (some e)) ↔ Selects (tableOf ws .entries) w e
+  looks-entry e =
+      let x = names-exactly (tableOf ws .entries) w e in
+      (λ h. x .0 (chose-entry w e _ (sym looks ∙ h)), λ s. looks ∙ ap (lookedUp w) (x .1 s))
+
+  pub looks-nothing : (lookOf (readTable ws) w ≡ result none) ↔ Unclaimed (tableOf ws .entries) w
+  looks-nothing =
+      let x = nothing-exactly (tableOf ws .entries) w in
+      (λ h. x .0 (chose-nothing w _ (sym looks ∙ h)), λ s. looks ∙ ap (lookedUp w) (x .1 s))
+
+  pub looks-ambiguous : (lookOf (readTable ws) w ≡ refused 6 0 w) ↔ (Claimed (tableOf ws .entries) w × ((e : ℕ) → Selects (tableOf ws .entries) w e → ⊥))
+  looks-ambiguous =
+      let x = ambiguous-exactly (tableOf ws .entries) w in
+      (λ h. x .0 (chose-ambiguous w _ (sym looks ∙ h)), λ s. looks ∙ ap (lookedUp w) (x .1 s))

@@ -1,0 +1,5 @@
+pub mod Exclusion
+pub mod Choosing
+pub mod Finding
+pub mod Formula
+pub mod Examples

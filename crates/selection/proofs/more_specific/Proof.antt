@@ -1,0 +1,49 @@
+use Rattle.selection.proofs.Choosing.{not-held, same-mask, by-value}
+use borrow.Author.Needs.{needs}
+use Rattle.selection.proofs.more_specific.Statement.{statement}
+use Rattle.selection.proofs.more_specific.Tie as tie
+
+add-opcode : tie.Need-add-opcode
+add-opcode c = search needs
+
+add-other : tie.Need-add-other
+add-other c = search needs
+
+word-at-requires : tie.Need-word-at-requires
+word-at-requires c κs = search needs
+
+word-at-requires-2 : tie.Need-word-at-requires-2
+word-at-requires-2 c κs = search needs
+
+returns : tie.Need-returns
+returns c = not-held _ _ _ _ (c .before .before .word-at .ensures) (c .before .word-at2 .ensures) (c .if1 .taken)
+
+returns-2 : tie.Need-returns-2
+returns-2 c = same-mask _ _ _ _ (c .before .before .before .word-at .ensures) (c .before .before .word-at2 .ensures) (c .before .if1 .left) (c .if2 .taken)
+
+add-word-at : tie.Need-add-word-at
+add-word-at c = search needs
+
+word-at-requires-3 : tie.Need-word-at-requires-3
+word-at-requires-3 c κs = search needs
+
+matches-requires : tie.Need-matches-requires
+matches-requires c κs = search needs
+
+returns-3 : tie.Need-returns-3
+returns-3 c = by-value _ _ _ _ (c .before .before .before .before .before .word-at .ensures) (c .before .before .before .before .word-at2 .ensures) (c .before .before .before .if1 .left) (c .before .before .if2 .left) _ _ (c .matches .ensures) (c .before .word-at3 .ensures)
+
+pub more-specific-spec : {M : Type 1} → statement M
+more-specific-spec =
+    tie.close
+    (tie.spec
+    add-opcode
+    add-other
+    word-at-requires
+    word-at-requires-2
+    returns
+    returns-2
+    add-word-at
+    word-at-requires-3
+    matches-requires
+    returns-3)

@@ -1,0 +1,83 @@
+"""Tests of the framing of requests 2, 5 and 6 (probe-format.md): cut after each word, counts too large, trailing
+bytes, and lines longer than probe's line buffer. Whole requests get the second implementation's line.
+
+Usage: probe_requests.py [path of probe]. Exits with status 1 at the first difference. It stands beside probe.py.
+"""
+
+import sys
+
+import probe
+from second.lines import line_of
+
+PRINTED = [0x10010002, 0x20050210, 0x00000002, 0x00000002, 0x30000001]
+EIGHT = [0x11111111 * k for k in range(1, 9)]
+WORDS_IN_FULL_INPUT = 262144
+
+QUESTIONS = [
+    ("lookup", PRINTED, 3), ("lookup", PRINTED, 0xFFFFFFFF), ("lookup", [], 3),
+    ("decode", PRINTED, 3, EIGHT), ("decode", PRINTED, 3, EIGHT[:7]), ("decode", PRINTED, 0, EIGHT), ("decode", [], 3, []),
+    ("encode", PRINTED, 0, [1]), ("encode", PRINTED, 0, [2]), ("encode", PRINTED, 0xFFFFFFFF, []), ("encode", [], 0, [5, 6]),
+]
+TOO_LARGE = (6, 7, 0x100, 262144, 0x3FFFFFFF, 0x40000000, 0x40000005, 0x7FFFFFFF, 0x80000000, 0xFFFFFFFA, 0xFFFFFFFB,
+             0xFFFFFFFC, 0xFFFFFFFD, 0xFFFFFFFE, 0xFFFFFFFF)
+
+
+def words_of(questions):
+    return [word for question in questions for word in probe.request_of(question)]
+
+
+def whole_and_cut():
+    """Each request whole, then cut after each of its words, alone and after others, with and without trailing bytes."""
+    for before in ([], QUESTIONS[:1], QUESTIONS):
+        start, lines = words_of(before), [line_of(question) for question in before]
+        for question in QUESTIONS:
+            words, line = probe.request_of(question), line_of(question)
+            yield question, probe.pack(start + words), lines + [line]
+            yield question, probe.pack(start + words + [1, 0]), lines + [line, "1 1 0 00000000"]
+            yield question, probe.pack(start + words) + b"\x02", lines + [line, f"stopped {len(start + words)}"]
+            for length in range(1, len(words)):
+                for trailing in (b"", b"\x01", b"\x00\x00\x00"):
+                    yield question, probe.pack(start + words[:length]) + trailing, lines + [f"stopped {len(start)}"]
+
+
+def counts_too_large():
+    for count in TOO_LARGE:
+        for number in (2, 5, 6):
+            yield number, probe.pack([number, count, *PRINTED]), ["stopped 0"]
+            yield number, probe.pack([1, 0, number, count, *PRINTED]), ["1 1 0 00000000", "stopped 2"]
+        for number in (5, 6):
+            yield number, probe.pack([number, 5, *PRINTED, 3, count]), ["stopped 0"]
+            yield number, probe.pack([number, 5, *PRINTED, 3, count, 1, 2, 3, 4, 5]), ["stopped 0"]
+
+
+def long_lines():
+    """Buffers about as long as one or two of probe's line buffers, and the longest that an input holds."""
+    for size in (*range(440, 460), *range(895, 915), 65536, WORDS_IN_FULL_INPUT - 9):
+        buffer = [(0x9E3779B9 * k) & 0xFFFFFFFF for k in range(size)]
+        for table in (PRINTED, []):
+            question = ("decode", table, 3, buffer)
+            words = probe.request_of(question)
+            if len(words) <= WORDS_IN_FULL_INPUT:
+                yield ("decode", table, 3, size), probe.pack(words), [line_of(question)]
+    long, short = ("decode", PRINTED, 3, [9] * 600), ("decode", PRINTED, 3, [7] * 8)
+    yield "long, then short, then empty", probe.pack(words_of([long, short, ("decode", [], 3, []), long])), \
+        [line_of(question) for question in (long, short, ("decode", [], 3, []), long)]
+
+
+def main():
+    path = probe.path_from_arguments()
+    done = 0
+    for source in (whole_and_cut, counts_too_large, long_lines):
+        for name, data, expected in source():
+            seen = probe.lines_of(path, data)
+            if seen != expected:
+                print(f"difference: {name}, {len(data)} bytes, begins with {data[:64].hex(' ', 4)}")
+                print(f"expected: {[line[:200] for line in expected[-3:]]}")
+                print(f"seen:     {[line[:200] for line in seen[-3:]]}")
+                sys.exit(1)
+            done += 1
+    print(f"probe_requests good: {done} inputs")
+
+
+if __name__ == "__main__":
+    main()
