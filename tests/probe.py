@@ -27,18 +27,30 @@ def run_of(words):
     return [len(words), *words]
 
 
+def bytes_of(data):
+    """Bytes: how many, then the bytes padded to whole words. The padding isn't zero, because what it holds is ignored."""
+    padded = data + b"\xa5" * (-len(data) % 4)
+    return [len(data), *struct.unpack(f"<{len(padded) // 4}I", padded)]
+
+
 def request_of(question):
-    """The words of a request. A question is ("read", table), ("lookup", table, word),
-    ("decode", table, word, buffer) or ("encode", table, entry, values)."""
-    name, table, *rest = question
+    """The words of a request. A question is ("read", table), ("lookup", table, word), ("generate", table, buffer),
+    ("walk bytes", bytes, word), ("decode", table, word, buffer), ("encode", table, entry, values) or ("walk", tree, word)."""
+    name, first, *rest = question
     if name == "read":
-        return [1, *run_of(table)]
+        return [1, *run_of(first)]
     if name == "lookup":
-        return [2, *run_of(table), rest[0]]
+        return [2, *run_of(first), rest[0]]
+    if name == "generate":
+        return [3, *run_of(first), *run_of(rest[0])]
+    if name == "walk bytes":
+        return [4, *bytes_of(first), rest[0]]
     if name == "decode":
-        return [5, *run_of(table), rest[0], *run_of(rest[1])]
+        return [5, *run_of(first), rest[0], *run_of(rest[1])]
     if name == "encode":
-        return [6, *run_of(table), rest[0], *run_of(rest[1])]
+        return [6, *run_of(first), rest[0], *run_of(rest[1])]
+    if name == "walk":
+        return [10, *run_of(first), rest[0]]
     raise ValueError(name)
 
 
@@ -79,16 +91,22 @@ def ask(path, questions):
     return lines
 
 
+def shown(part):
+    """A part of a question: bytes, words or one number, in hexadecimal."""
+    if isinstance(part, bytes):
+        return f"{len(part)} bytes {part.hex(' ', 4)}"
+    return " ".join(f"{number:08x}" for number in (part if isinstance(part, list) else [part]))
+
+
 def stop_at_difference(name, question, expected, seen):
     """Ends the test with exit status 1 if the two lines differ."""
     if seen == expected:
         return
-    kind, table, *rest = question
+    kind, first, *rest = question
     print(f"difference: {name}")
-    print(f"{kind} table: {' '.join(f'{word:08x}' for word in table)}")
+    print(f"{kind}: {shown(first)}")
     for part in rest:
-        numbers = part if isinstance(part, list) else [part]
-        print(f"with: {' '.join(f'{number:08x}' for number in numbers)}")
+        print(f"with: {shown(part)}")
     print(f"expected: {expected}")
     print(f"seen:     {seen}")
     sys.exit(1)

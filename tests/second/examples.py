@@ -347,3 +347,117 @@ SELECTION_EXAMPLES = [
     ("bad table, no such entry", encode(BAD, 9, [9, 9]), "6 2 5 00000000"),
     ("empty table, no such entry", encode([], 0, []), "6 1 0 00000000"),
 ]
+
+
+# ---------------------------------------------------------------------------- trees
+
+def generate(words, length):
+    """Generating with this many lent words, 11111111 22222222 and so on."""
+    return ("generate", words, LENT[:length])
+
+
+def walk(tree, word):
+    return ("walk", tree, word)
+
+
+def walk_bytes(tree, word):
+    return ("walk bytes", b"".join(one.to_bytes(4, "little") for one in tree), word)
+
+
+LENT = [0x11111111 * digit for digit in range(1, 16)] + [0] * 25
+
+# The trees of these tables, made by hand with the steps of document 01.
+PRINTED_TREE = table("70020003 80800003 a0000000 90000000")
+WITH_THIRD_TREE = table("70030007 81000005 80000004 90000002 90000000 80000007 90000001 a0000000")
+
+# The worked table's: bit 7; below its zero side bits 6, 5, 4, then 1 and 0 (A, E; F, A), below its one side bits 6, 1, 0.
+WORKED_TREE = table("""7008001b
+    83800015 83000010 8280000d 8200000c 80800009 80000008 90000000 90000004 8000000b 90000005 90000000
+      90000000 8200000f 90000000 90000006
+      82800012 90000001 82000014 90000001 90000006
+    8300001b 8080001a 80000019 90000002 90000003 a0000000 a0000000""")
+
+# A foreign tree of width 2 that tests bit 0 twice: 1 tests bit 0, 2 tests bit 0, 3 is entry 9, 4 is entry 255.
+FOREIGN_TREE = table("70020004 80000003 80000004 90000009 900000ff")
+
+# The twelve marked words: the word, what is named and how many tests there are on its path, counted by hand.
+MARKED = [(0x00, "0", 6), (0x01, "4", 6), (0x02, "5", 6), (0x03, "0", 6), (0x11, "0", 4), (0x30, "6", 4), (0x40, "1", 3),
+          (0x70, "6", 4), (0x80, "2", 4), (0x81, "3", 4), (0x82, "nothing", 3), (0xC0, "nothing", 2)]
+
+ZEROS_7 = "| " + " ".join(["00000000"] * 7)
+ZEROS_8 = "| " + " ".join(["00000000"] * 8)
+
+
+def tree_text(words):
+    return " ".join(f"{word:08x}" for word in words)
+
+
+def result_bits(named, tests):
+    """A finished walk: entry in bits 7-0, bit 8 for nothing, count in bits 31-16."""
+    return f"{(0x100 if named == 'nothing' else int(named)) | tests << 16:016x}"
+
+
+# (what it shows, the question, the line)
+TREE_EXAMPLES = [
+    # Width 3, patterns 0-- and --0: 7 nodes. Bit 2 is tested, then bit 0; word 0 is in the conflict leaf.
+    ("0-- and --0, 8 words give 6 with word 0", generate(ZERO_HIGH_ZERO_LOW, 8), "3 6 0 00000000 " + ZEROS_8),
+    ("0-- and --0, 7 words give 5", generate(ZERO_HIGH_ZERO_LOW, 7), "3 5 0 00000000 " + ZEROS_7),
+    ("0-- and --0, no word gives 5", generate(ZERO_HIGH_ZERO_LOW, 0), "3 5 0 00000000 |"),
+    ("0-0 added, 8 words", generate(WITH_THIRD, 8), "3 0 0 00000000 8 | " + tree_text(WITH_THIRD_TREE)),
+    ("0-0 added, 10 words", generate(WITH_THIRD, 10),
+     "3 0 0 00000000 8 | " + tree_text(WITH_THIRD_TREE) + " 99999999 aaaaaaaa"),
+    ("0-0 added, 7 words", generate(WITH_THIRD, 7), "3 5 0 00000000 " + ZEROS_7),
+    ("the printed table, 4 words", generate(PRINTED, 4), "3 0 0 00000000 4 | " + tree_text(PRINTED_TREE)),
+    ("the printed table, 3 words", generate(PRINTED, 3), "3 5 0 00000000 | 00000000 00000000 00000000"),
+    ("the printed table cut", generate(PRINTED[:4], 3), "3 2 4 00000000 | 11111111 22222222 33333333"),
+    ("the empty table", generate([], 1), "3 1 0 00000000 | 11111111"),
+    ("no entries", generate([0x10000020], 3), "3 0 0 00000000 2 | 70200001 a0000000 33333333"),
+    ("no entries, 1 word", generate([0x10000020], 1), "3 5 0 00000000 | 00000000"),
+    ("twins 1-", generate([0x10020002, *PRINTED[1:], *PRINTED[1:]], 4), "3 6 0 00000002 | 00000000 00000000 00000000 00000000"),
+    # 0-- and -00: each bit is in one mask, so bit 2 is tested, then 1, then 0: 11 nodes, the conflict is word 0.
+    ("0-- and -00, 12 words", generate(MORE_MASK_BITS, 12), "3 6 0 00000000 " + " ".join(["|"] + ["00000000"] * 12)),
+    ("0-- and -00, 11 words", generate(MORE_MASK_BITS, 11), "3 5 0 00000000 " + " ".join(["|"] + ["00000000"] * 11)),
+    ("the worked table, 28 words", generate(WORKED, 28), "3 0 0 00000000 28 | " + tree_text(WORKED_TREE)),
+    ("the worked table, 27 words", generate(WORKED, 27), "3 5 0 00000000 " + " ".join(["|"] + ["00000000"] * 27)),
+    # EVERY_KIND: 1-, but not what matches -1 and doesn't match 0-. Bit 1 first; at 1 the condition waits for bit 0.
+    ("every kind once", generate(EVERY_KIND, 6), "3 0 0 00000000 6 | 70020005 80800003 a0000000 80000005 90000000 a0000000"),
+    # 1--, but not what matches --0 and doesn't match 00-. With bit 2 at 1 the unmatching pattern clashes, but it still is a
+    # pattern of an open condition: bit 1 is tested because of it, and bit 0 after that.
+    ("a clashing pattern's bit", generate(table("10010003 20000311 00000004 00000004 30000002 "
+                                                "40000001 00000001 00000000 50000000 00000006 00000000"), 10),
+     "3 0 0 00000000 10 | 70030009 81000003 a0000000 80800007 80000006 a0000000 90000000 80000009 a0000000 90000000"),
+
+    # Word 0 selects the third; each path tests bits 2 and 0.
+    *[(f"0-0 added, walk of {word}", walk(WITH_THIRD_TREE, word), f"10 0 0 00000000 {named} 2")
+      for word, named in enumerate(["2", "0", "2", "0", "1", "nothing", "1", "nothing"])],
+    *[(f"the worked table, walk of {word:#04x}", walk(WORKED_TREE, word), f"10 0 0 00000000 {named} {tests}")
+      for word, named, tests in MARKED],
+    *[(f"the worked table, walk of {word:#04x} as bytes", walk_bytes(WORKED_TREE, word),
+       f"4 0 0 00000000 {result_bits(named, tests)}") for word, named, tests in MARKED],
+
+    # Walking: 8, 7, 9.
+    ("walk of a high word", walk(WORKED_TREE, 0x100), "10 7 0 00000000"),
+    ("walk of a high word as bytes", walk_bytes(WORKED_TREE, 0x100), "4 0 0 00000000 0000000700000000"),
+    ("walk of no tree", walk([], 0), "10 8 0 00000000"),
+    ("walk of no bytes", walk_bytes([], 0), "4 0 0 00000000 0000000800000000"),
+    ("walk of a header alone", walk(PRINTED_TREE[:1], 0), "10 8 0 00000000"),
+    ("walk of a cut tree", walk(PRINTED_TREE[:3], 0), "10 8 0 00000000"),
+    ("walk of a cut tree with a high word", walk(PRINTED_TREE[:3], 4), "10 8 0 00000000"),
+    ("walk with words after the tree", walk(PRINTED_TREE + [0xFFFFFFFF], 2), "10 0 0 00000000 0 1"),
+    ("a byte too few", ("walk bytes", b"\x03\x00\x02\x70\x03\x00\x80\x80\x00\x00\x00\xa0\x00\x00\x00", 0),
+     "4 0 0 00000000 0000000800000000"),
+    ("a byte after it", ("walk bytes", b"\x01\x00\x02\x70\x00\x00\x00\xa0\x00", 0), "4 0 0 00000000 0000000800000000"),
+    ("one nothing", ("walk bytes", b"\x01\x00\x02\x70\x00\x00\x00\xa0", 0), "4 0 0 00000000 0000000000000100"),
+    ("a damaged root and a high word", walk(table("70020001 00000000"), 4), "10 7 0 00000000"),
+    ("a damaged root", walk(table("70020001 00000000"), 3), "10 9 1 00000000"),
+    ("a damaged third node", walk_bytes(table("70020003 80800003 a0000000 90000100"), 2), "4 0 0 00000000 0003000900000000"),
+    ("a damaged third node, not on the path", walk(table("70020003 80800003 a0000000 90000100"), 1), "10 0 0 00000000 nothing 1"),
+    ("a foreign tree, zero side", walk(FOREIGN_TREE, 0), "10 0 0 00000000 9 2"),
+    ("a foreign tree, one side", walk(FOREIGN_TREE, 3), "10 0 0 00000000 9 1"),
+    ("the tested bit at the width", walk(table("70020003 81000003 a0000000 90000000"), 0), "10 9 1 00000000"),
+    ("the one side at own + 1", walk(table("70020003 80800002 a0000000 90000000"), 0), "10 9 1 00000000"),
+    ("the one side after the nodes", walk(table("70020003 80800004 a0000000 90000000 90000000"), 0), "10 9 1 00000000"),
+]
+
+# "For the words, in hexadecimal, ... it prints"
+PRINTED_TEXT = "0 70020003\n1 80800003\n2 a0000000\n3 90000000\n"

@@ -2,6 +2,8 @@
 
 from second import selection
 from second.reader import Refusal, read
+from second.tree import MOST_TREE_WORDS, generate
+from second.walk import walk, walk_bytes
 
 
 def refusal_text(outcome):
@@ -28,10 +30,30 @@ def lookup_line(words, word):
     return "2 " + refusal_text(outcome) + result_text(outcome, str(outcome))
 
 
+def buffer_text(after):
+    """The buffer's words after the call; an empty buffer is the bar alone."""
+    return " ".join(["|", *(f"{item:08x}" for item in after)])
+
+
+def generate_line(words, buffer):
+    outcome, after = generate(words, buffer)
+    return "3 " + refusal_text(outcome) + result_text(outcome, str(outcome)) + " " + buffer_text(after)
+
+
+def walk_bytes_line(tree_bytes, word):
+    return f"4 0 0 00000000 {walk_bytes(tree_bytes, word):016x}"
+
+
+def walk_line(tree, word):
+    outcome = walk(tree, word)
+    if isinstance(outcome, Refusal):
+        return "10 " + refusal_text(outcome)
+    return f"10 {refusal_text(outcome)} {outcome.names} {outcome.count}"
+
+
 def decode_line(words, word, buffer):
     outcome, after = selection.decode(words, word, buffer)
-    bar = " ".join(["|", *(f"{item:08x}" for item in after)])
-    return "5 " + refusal_text(outcome) + result_text(outcome, str(outcome)) + " " + bar
+    return "5 " + refusal_text(outcome) + result_text(outcome, str(outcome)) + " " + buffer_text(after)
 
 
 def encode_line(words, entry, values):
@@ -42,8 +64,25 @@ def encode_line(words, entry, values):
 
 
 def line_of(question):
-    """A question is ("read", table), ("lookup", table, word), ("decode", table, word, buffer)
-    or ("encode", table, entry, values)."""
+    """A question is ("read", table), ("lookup", table, word), ("generate", table, buffer), ("walk bytes", bytes, word),
+    ("decode", table, word, buffer), ("encode", table, entry, values) or ("walk", tree, word)."""
     name, *parts = question
-    makers = {"read": read_line, "lookup": lookup_line, "decode": decode_line, "encode": encode_line}
+    makers = {"read": read_line, "lookup": lookup_line, "generate": generate_line, "walk bytes": walk_bytes_line,
+              "decode": decode_line, "encode": encode_line, "walk": walk_line}
     return makers[name](*parts)
+
+
+def mktree_text(data):
+    """What mktree prints for these bytes on its standard input."""
+    # "Input over 65,536 bytes or not a multiple of four is number 1."
+    if len(data) > 65536 or len(data) % 4 != 0:
+        outcome = Refusal(1)
+    else:
+        # "words low byte first"; "Its tree buffer is 16,384 words."
+        words = [int.from_bytes(data[start:start + 4], "little") for start in range(0, len(data), 4)]
+        outcome, after = generate(words, [0] * MOST_TREE_WORDS)
+    # "A refusal prints one line: `refused`, number and place in decimal, and the word in eight such digits".
+    if isinstance(outcome, Refusal):
+        return f"refused {refusal_text(outcome)}\n"
+    # "It prints each tree word: index, space, eight lower-case hexadecimal digits."
+    return "".join(f"{index} {word:08x}\n" for index, word in enumerate(after[:outcome]))

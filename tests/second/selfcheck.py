@@ -10,8 +10,8 @@ from pathlib import Path
 
 sys.path.insert(0, str(Path(__file__).resolve().parent.parent))
 
-from second import examples, selection, tables
-from second.lines import line_of, read_line
+from second import examples, selection, tables, tree, walk
+from second.lines import line_of, mktree_text, read_line
 from second.reader import Refusal, Table, read
 
 
@@ -27,7 +27,12 @@ def hexadecimal(words):
 def wrong_examples():
     """The names of the hand-written examples that the second implementation doesn't meet."""
     wrong = [name for name, words, line in examples.READ_EXAMPLES if read_line(words) != line]
-    wrong += [name for name, question, line in examples.SELECTION_EXAMPLES if line_of(question) != line]
+    both = examples.SELECTION_EXAMPLES + examples.TREE_EXAMPLES
+    both += [("the bit of the most masks", ("generate", MOST_MASKS, [0] * 6), MOST_MASKS_LINE)]
+    wrong += [name for name, question, line in both if line_of(question) != line]
+    printed = b"".join(word.to_bytes(4, "little") for word in examples.PRINTED)
+    if mktree_text(printed) != examples.PRINTED_TEXT:
+        wrong.append("what mktree prints")
     return wrong
 
 
@@ -35,7 +40,7 @@ def check_examples():
     wrong = wrong_examples()
     if wrong:
         fail(f"example: {wrong[0]}")
-    return len(examples.READ_EXAMPLES) + len(examples.SELECTION_EXAMPLES)
+    return len(examples.READ_EXAMPLES) + len(examples.SELECTION_EXAMPLES) + len(examples.TREE_EXAMPLES) + 1
 
 
 # Document 01's "Mistakes to exclude", and a few neighbours: with each of them made, an example must fail.
@@ -79,21 +84,102 @@ def first_claim(table, word):
     return selection.NOTHING
 
 
-RIGHT = {"satisfied": selection.satisfied, "more_specific": selection.more_specific, "select": selection.select}
+def lone_leaf(cell, entry):
+    """Mistake: a leaf for a lone entry still open (every live entry counts as sure)."""
+    status, conditions = RIGHT["entry_status"](cell, entry)
+    return (status if status == tree.DEAD else tree.SURE), conditions
+
+
+def one_clash_is_enough(cell, condition):
+    """Mistake: a condition holds when one unmatching pattern is missed."""
+    if tree.implies(cell, condition.matching) and any(tree.clashes(cell, one) for one in condition.unmatching):
+        return tree.HOLDS
+    return RIGHT["condition_status"](cell, condition)
+
+
+def lowest_bit(cell, opcodes, conditions):
+    """Mistake: the lowest bit on a tie."""
+    how_many = Counter(bit for opcode in opcodes for bit in opcode.mask - cell.fixed)
+    if not how_many:
+        return RIGHT["chosen_bit"](cell, opcodes, conditions)
+    return min(bit for bit in how_many if how_many[bit] == max(how_many.values()))
+
+
+def highest_bit(cell, opcodes, conditions):
+    """Mistake: the highest bit of any open entry's mask, however many have it."""
+    bits = [bit for opcode in opcodes for bit in opcode.mask - cell.fixed]
+    return max(bits) if bits else RIGHT["chosen_bit"](cell, opcodes, conditions)
+
+
+def clashing_left_out(cell, opcodes, conditions):
+    """Mistake: patterns that clash give no bit."""
+    patterns = [one for condition in conditions for one in (condition.matching, *condition.unmatching)]
+    bits = {bit for one in patterns if not tree.clashes(cell, one) for bit in one.mask - cell.fixed}
+    return max(bits) if not any(opcode.mask - cell.fixed for opcode in opcodes) else RIGHT["chosen_bit"](cell, opcodes, conditions)
+
+
+def no_conflict(nodes):
+    """Mistake: a conflict leaf is taken for a good one."""
+    return None
+
+
+def all_ambiguous(nodes):
+    """Mistake: every table is ambiguous."""
+    return 0
+
+
+def any_bit_tested(node, index, width, count):
+    """Mistake: the tested bit may be at or above the width."""
+    return RIGHT["damaged"](node, index, 32, count)
+
+
+def no_header(words):
+    """Mistake: any header will do."""
+    return len(words) > 1
+
+
+def leaf_counted(outcome):
+    """Mistake: the leaf counts as a test."""
+    if isinstance(outcome, Refusal):
+        return RIGHT["packed"](outcome)
+    return RIGHT["packed"](walk.Walked(outcome.names, outcome.count + 1))
+
+
+# A table in which the bit of the most masks isn't the highest: 1-0, 0-0 and --1 (bit 0 is in three masks, bit 2 in two).
+MOST_MASKS = examples.table("""10030003 20000310 00000005 00000004 30000101 20000310 00000005 00000000 30000101
+    20000310 00000001 00000001 30000102""")
+MOST_MASKS_LINE = "3 0 0 00000000 6 | 70030005 80000005 81000004 90000001 90000000 90000002"
+
+HOMES = {selection: ("satisfied", "more_specific", "select"), tree: ("entry_status", "condition_status", "chosen_bit",
+         "conflict_word"), walk: ("damaged", "header_good", "packed")}
+RIGHT = {name: getattr(home, name) for home, names in HOMES.items() for name in names}
 MISTAKES = [("satisfied", one_missed_is_enough, "0x00 A"),
             ("satisfied", unmatching_forgotten, "0x00 A"),
             ("more_specific", more_bits, "more mask bits are not more specific: 0-- and -00, word 0"),
             ("more_specific", no_bit_more, "twins are ambiguous"),
             ("select", lone_entry, "the printed table, word 0"),
-            ("select", first_claim, "0-0 added, word 0")]
+            ("select", first_claim, "0-0 added, word 0"),
+            ("entry_status", lone_leaf, "the printed table, 4 words"),
+            ("condition_status", one_clash_is_enough, "the worked table, 28 words"),
+            ("chosen_bit", lowest_bit, "the worked table, 28 words"),
+            ("chosen_bit", highest_bit, "the bit of the most masks"),
+            ("chosen_bit", clashing_left_out, "a clashing pattern's bit"),
+            ("conflict_word", no_conflict, "0-- and --0, 8 words give 6 with word 0"),
+            ("conflict_word", all_ambiguous, "0-0 added, 8 words"),
+            ("damaged", any_bit_tested, "the tested bit at the width"),
+            ("header_good", no_header, "walk of a cut tree"),
+            ("packed", leaf_counted, "the worked table, walk of 0x00 as bytes")]
 
 
 def check_mistakes():
     """Each mistake, made on purpose, must be noticed by the example that stands for it."""
     for name, mistake, example in MISTAKES:
-        setattr(selection, name, mistake)
+        home = next(home for home, names in HOMES.items() if name in names)
+        setattr(home, name, mistake)
+        tree.nodes_once.cache_clear()
         wrong = wrong_examples()
-        setattr(selection, name, RIGHT[name])
+        setattr(home, name, RIGHT[name])
+        tree.nodes_once.cache_clear()
         if example not in wrong:
             fail(f"the mistake {mistake.__name__} isn't noticed by: {example}")
     return len(MISTAKES)
@@ -220,6 +306,165 @@ def check_round_trips(rng, tally):
         fail(f"only {tally['round trips']} round trips")
 
 
+# ---------------------------------------------------------------------------- trees
+
+def in_cell(word_bits, cell):
+    return word_bits & cell.fixed == cell.ones
+
+
+def written_out(pattern, width):
+    """A pattern as document 01 writes it: high bit first, - for a bit outside the mask."""
+    return "".join("-" if bit not in pattern.mask else "1" if bit in pattern.value else "0" for bit in reversed(range(width)))
+
+
+def text_implies(cell, pattern):
+    return all(wanted in ("-", fixed) for fixed, wanted in zip(cell, pattern))
+
+
+def text_clashes(cell, pattern):
+    return any(wanted != fixed and "-" not in (fixed, wanted) for fixed, wanted in zip(cell, pattern))
+
+
+def text_condition(cell, matching, unmatching):
+    if text_implies(cell, matching) and all(text_clashes(cell, one) for one in unmatching):
+        return "holds"
+    if text_clashes(cell, matching) or any(text_implies(cell, one) for one in unmatching):
+        return "fails"
+    return "open"
+
+
+def text_step(table, cell):
+    """The step that document 01 takes in a cell, once more: on strings, with all entries, and nothing kept between cells.
+    An entry's number, "nothing", "conflict" or ("test", bit)."""
+    width = len(cell)
+    opcodes = [written_out(entry.opcode, width) for entry in table.entries]
+    conditions = [[(written_out(one.matching, width), [written_out(other, width) for other in one.unmatching])
+                   for one in entry.conditions] for entry in table.entries]
+    status = []
+    for opcode, its_conditions in zip(opcodes, conditions):
+        found = {text_condition(cell, *one) for one in its_conditions}
+        if text_clashes(cell, opcode) or "holds" in found:
+            status.append("dead")
+        elif text_implies(cell, opcode) and found <= {"fails"}:
+            status.append("sure")
+        else:
+            status.append("open")
+    live = [number for number, one in enumerate(status) if one != "dead"]
+    for number in live:
+        others = [other for other in live if other != number]
+        # More specific: the other pattern is implied by this one, and isn't the same.
+        if status[number] == "sure" and all(opcodes[number] != opcodes[other] and text_implies(opcodes[number], opcodes[other])
+                                            for other in others):
+            return number
+    if not live:
+        return "nothing"
+    open_ones = [number for number in live if status[number] == "open"]
+    if not open_ones:
+        return "conflict"
+    free = [place for place in range(width) if cell[place] == "-"]
+    votes = {place: sum(opcodes[number][place] != "-" for number in open_ones) for place in free}
+    if any(votes.values()):
+        # The first place is the highest bit.
+        return "test", width - 1 - max(free, key=lambda place: (votes[place], -place))
+    for place in free:
+        for number in open_ones:
+            for matching, unmatching in conditions[number]:
+                if text_condition(cell, matching, unmatching) == "open" and any(one[place] != "-" for one in [matching, *unmatching]):
+                    return "test", width - 1 - place
+    return "stuck"
+
+
+def check_step(table, node, words):
+    cell = "".join("-" if bit not in node.cell.fixed else "1" if bit in node.cell.ones else "0"
+                   for bit in reversed(range(table.width)))
+    kinds = {tree.Test: lambda: ("test", node.bit), tree.Names: lambda: node.entry,
+             tree.NamesNothing: lambda: "nothing", tree.Conflict: lambda: "conflict"}
+    step = text_step(table, cell)
+    if step != kinds[type(node)]():
+        fail(f"cell {cell}: the node is {node}, the step is {step}: {hexadecimal(words)}")
+    if isinstance(node, tree.Test) and node.bit in node.cell.fixed:
+        fail(f"bit {node.bit} is tested twice: {hexadecimal(words)}")
+
+
+def check_buffers(words, nodes, conflict, tally):
+    """nodes + 1 words take the tree, one fewer don't; 5 comes before 6; what is left is unchanged, or all is zero."""
+    for length in {0, 1, nodes, nodes + 1, nodes + 4}:
+        lent = [0xDDDDDDDD] * length
+        outcome, after = tree.generate(words, lent)
+        wanted = Refusal(5) if length < nodes + 1 else conflict if conflict is not None else nodes + 1
+        rest = [0] * length if isinstance(wanted, Refusal) else after[:nodes + 1] + lent[nodes + 1:]
+        if outcome != wanted or after != rest:
+            fail(f"{length} words lent for {nodes} nodes give {outcome}: {hexadecimal(words)}")
+        tally[f"outcome {outcome.number}" if isinstance(outcome, Refusal) else "outcome tree"] += 1
+
+
+def check_tree_of(words, tally, asked):
+    """A table's tree against its lookups: on every word that is asked, or on every word of the width (None)."""
+    table = read(words)
+    nodes = tree.nodes_of(table)
+    if nodes is None:
+        return
+    for node in nodes:
+        check_step(table, node, words)
+    conflict = tree.conflict_word(nodes)
+    check_buffers(words, len(nodes), None if conflict is None else Refusal(6, word=conflict), tally)
+    written = tree.written(table.width, nodes)
+    ambiguous = False
+    for word in range(1 << table.width) if asked is None else asked:
+        wanted = selection.select(table, word)
+        word_bits = selection.ones(word)
+        leaves = [node for node in nodes if not isinstance(node, tree.Test) and in_cell(word_bits, node.cell)]
+        tests = [node for node in nodes if isinstance(node, tree.Test) and in_cell(word_bits, node.cell)]
+        if len(leaves) != 1 or len({node.bit for node in tests}) != len(tests):
+            fail(f"word {word:x} is in {len(leaves)} leaves, its tests are {tests}: {hexadecimal(words)}")
+        if (wanted == selection.AMBIGUOUS) != isinstance(leaves[0], tree.Conflict):
+            fail(f"word {word:x} is {wanted}, its leaf {leaves[0]}: {hexadecimal(words)}")
+        if wanted == selection.AMBIGUOUS:
+            ambiguous = True
+        elif walk.walk(written, word) != walk.Walked(wanted, len(tests)):
+            fail(f"word {word:x} is {wanted}, walked: {walk.walk(written, word)}: {hexadecimal(words)}")
+        tally["walked words"] += 1
+    if conflict is not None and selection.select(table, conflict) != selection.AMBIGUOUS:
+        fail(f"word {conflict:x} isn't ambiguous: {hexadecimal(words)}")
+    if asked is None and ambiguous != (conflict is not None):
+        fail(f"ambiguous: {ambiguous}, conflict word: {conflict}: {hexadecimal(words)}")
+    tally["trees"] += 1
+    tally["ambiguous trees"] += conflict is not None
+
+
+def tree_plans(rng, width):
+    yield tables.nested_plan(rng, width, most_entries=6)
+    yield tables.joined_plan(rng, width, most_entries=12) or tables.nested_plan(rng, width)
+    yield tables.divided_plan(rng, width)
+    yield tables.overlapping_plan(rng, width, most_entries=6)
+    yield tables.good_plan(rng, width, most_entries=5)
+
+
+def check_trees(rng, tally):
+    for width in list(range(1, 8)) * 9:
+        for plan in tree_plans(rng, width):
+            check_tree_of(tables.lay_out(plan).words, tally, None)
+    for width in range(8, 33):
+        for plan in tree_plans(rng, width):
+            words = tables.lay_out(plan).words
+            if tree.nodes_of(read(words), 300) is not None:
+                check_tree_of(words, tally, [tables.word_for(rng, plan) for _ in range(12)])
+    for depth in range(1, 7):
+        for one_more in (False, True):
+            plan = tables.full_tree_plan(rng, 7, depth, one_more and depth < 7)
+            nodes = tree.nodes_of(read(tables.lay_out(plan).words))
+            if len(nodes) != 2 ** (depth + 1) - 1 + (2 if one_more else 0):
+                fail(f"full_tree_plan of {depth} has {len(nodes)} nodes")
+    for plan, length in ((tables.full_tree_plan(rng, 32, 13), 16384), (tables.full_tree_plan(rng, 32, 13, True), Refusal(5)),
+                         (tables.full_tree_plan(rng, 32, 32), Refusal(5)), (tables.full_tree_plan(rng, 32, 13, twice=True), Refusal(6))):
+        outcome, _ = tree.generate(tables.lay_out(plan).words, [1] * 20000)
+        if outcome != length:
+            fail(f"a tree at the limit gives {outcome} and not {length}")
+    for what, least in (("trees", 350), ("ambiguous trees", 60), ("outcome 5", 700), ("outcome 6", 100), ("outcome tree", 400)):
+        if tally[what] < least:
+            fail(f"only {tally[what]} of {what}")
+
+
 def main():
     rng = random.Random(20250101)
     tally = Counter()
@@ -231,9 +476,11 @@ def main():
     check_cuts(rng, tally)
     check_double_damages(rng, tally)
     check_round_trips(rng, tally)
+    check_trees(rng, tally)
     print(f"selfcheck good: {example_count} examples, {mistakes} mistakes noticed, {tally['good']} good tables, "
           f"damages by number 1: {tally[1]}, 2: {tally[2]}, 3: {tally[3]}, 4: {tally[4]}, "
-          f"{tally['double']} double damages, {tally['round trips']} round trips")
+          f"{tally['double']} double damages, {tally['round trips']} round trips, {tally['trees']} trees "
+          f"({tally['ambiguous trees']} ambiguous), {tally['walked words']} walked words")
 
 
 if __name__ == "__main__":

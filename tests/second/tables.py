@@ -222,6 +222,125 @@ def overlapping_plan(rng, width, most_entries=9, conditions_often=0.3):
     return TablePlan(width, entries)
 
 
+# ---------------------------------------------------------------------------- tables that are never ambiguous
+
+def refines(e, f):
+    """Whether e's mask holds f's and more, with the same value on it."""
+    return f.mask & ~e.mask == 0 and e.mask != f.mask and e.value & f.mask == f.value
+
+
+def apart(e, f):
+    """Whether no word matches both, or one refines the other: two such entries never make a word ambiguous."""
+    return not agree(e, f) or refines(e, f) or refines(f, e)
+
+
+def nested_plan(rng, width, most_entries=10, conditions_often=0.4):
+    """A good table whose entries are apart from each other. Conditions only take claims away, so they change nothing in that."""
+    entries = [fresh_entry(rng, width)]
+    for _ in range(rng.randint(0, 2 * most_entries)):
+        if len(entries) == most_entries:
+            break
+        base = rng.choice(entries)
+        # Only a base with a free bit in the word can be refined.
+        can_refine = base.mask != own_bits(width, width)
+        make = rng.choice([refined_entry, refined_entry, coarser_entry] if can_refine else [coarser_entry])
+        entry = fresh_entry(rng, width) if rng.random() < 0.3 else make(rng, width, base)
+        if all(apart(entry, other) for other in entries):
+            entries.append(entry)
+    rng.shuffle(entries)
+    for entry in entries:
+        add_conditions(rng, width, entry, conditions_often)
+    return TablePlan(width, entries)
+
+
+def add_join(rng, width, entries, e, f):
+    """The join of two entries that aren't apart, if it isn't there; None if eight fields can't hold what it leaves free."""
+    mask, value = e.mask | f.mask, e.value | f.value
+    if any((other.mask, other.value) == (mask, value) for other in entries):
+        return False
+    join = entry_on_mask(rng, width, max(e.length, f.length), mask, value)
+    if join.mask != mask:
+        return None
+    entries.append(join)
+    return True
+
+
+def joined_plan(rng, width, most_entries=40):
+    """Entries that cross each other, and for every two that do their join, which has no conditions. None where that fails."""
+    entries = []
+    for _ in range(rng.randint(2, 4)):
+        entry = fresh_entry(rng, width) if not entries else crossing_entry(rng, width, rng.choice(entries))
+        if all((entry.mask, entry.value) != (other.mask, other.value) for other in entries):
+            entries.append(entry)
+    first = list(entries)
+    for at, e in enumerate(entries):
+        for f in entries[:at]:
+            if not apart(e, f) and add_join(rng, width, entries, e, f) is None:
+                return None
+        if len(entries) > most_entries:
+            return None
+    for entry in first:
+        # A join of conditionless joins may be one of the first; such an entry must stay as it is.
+        if not any(refines(entry, other) for other in entries):
+            add_conditions(rng, width, entry, 0.6)
+    rng.shuffle(entries)
+    return TablePlan(width, entries)
+
+
+def divided_plan(rng, width):
+    """Nested entries, and twins of some of them that share their words by opposite conditions: an entry loses what
+    matches P but not Q, its twin keeps only that."""
+    plan = nested_plan(rng, width, most_entries=6, conditions_often=0.2)
+    for entry in rng.sample(plan.entries, rng.randint(1, len(plan.entries))):
+        if len(entry.conditions) >= 8:
+            continue
+        own = own_bits(width, entry.length)
+        one, other = condition_pattern(rng, own, entry), condition_pattern(rng, own, entry)
+        # Not twin_entry, which may have to put more into the mask.
+        twin = EntryPlan(rng.randrange(4096), entry.length, entry.mask, entry.value, list(entry.fields))
+        if rng.random() < 0.5:
+            entry.conditions.append((one, []))
+            twin.conditions.append(((0, 0), [one]))
+        else:
+            entry.conditions.append((one, [other]))
+            twin.conditions += [((0, 0), [one]), (other, [])]
+        plan.entries.insert(rng.randint(0, len(plan.entries)), twin)
+    return plan
+
+
+# ---------------------------------------------------------------------------- tables with a tree of known size
+
+def undecided_condition(rng, width, depth):
+    """A condition that is never satisfied, and open in every cell in which bit width - depth isn't fixed. Its patterns
+    hold the highest `depth` bits."""
+    lowest = span(width - depth, 1)
+    above = span(width - depth, depth)
+    more = [(above, rng.getrandbits(32) & above | lowest) for _ in range(rng.randint(1, 7))]
+    return (lowest, 0), [(lowest, 0), *more]
+
+
+def undecided_in_one_cell(width, depth, word):
+    """A condition that is never satisfied, and open at a cell of the highest `depth` bits only if the word lies in it."""
+    above = span(width - depth, depth)
+    next_bit = span(width - depth - 1, 1)
+    return (above | next_bit, word & above), [(next_bit, 0)]
+
+
+def everywhere_entry(rng, width, conditions):
+    """An entry that matches every word."""
+    return EntryPlan(rng.randrange(4096), width, 0, 0, [(0, width)], conditions)
+
+
+def full_tree_plan(rng, width, depth, one_more=False, twice=False):
+    """A table whose tree tests the highest `depth` bits on every path: 2^(depth + 1) - 1 nodes, and with `one_more` one
+    test and leaf more. Twice the same entry, and every leaf is a conflict leaf."""
+    conditions = [undecided_condition(rng, width, depth)]
+    if one_more:
+        conditions.append(undecided_in_one_cell(width, depth, rng.getrandbits(32)))
+    entries = [everywhere_entry(rng, width, conditions) for _ in range(2 if twice else 1)]
+    return TablePlan(width, entries)
+
+
 # ---------------------------------------------------------------------------- words for a table
 
 def word_on(rng, width, patterns):

@@ -1,5 +1,5 @@
 -- Laws of runs and requests. Assumes nothing.
-use Prim.Native.Nat.{ℕ, _+_, _≤_, _<_}
+use Prim.Native.Nat.{ℕ, _+_, _*_, _/_, _≤_, _<_}
 use mathlib.Core.Bool.{Bool, true, false}
 use mathlib.Core.Path.{_≡_, refl, sym, ap, subst}
 use mathlib.Core.List.{List}
@@ -7,7 +7,9 @@ use native.Mathlib.Omega.{arith}
 use lib.Dec.{leb, ltb, eqb}
 use lib.ListN.{length, getD, List·getD-eq-default}
 use borrow.Author.Tests.{le-leb, lt-leb, leb-true, lt-ltb, le-ltb, ltb-true, ne-eqb}
-use Rattle.input.specs.Requests.{runAt, wordAfter, tableWordAt, withRun, runAfter, tableWordRunAt, readOf, lookupOf, decodeOf, encodeOf, requestOf, requestAt}
+use Rattle.input.specs.Requests.{runAt, wordAfter, tableWordAt, withRun, runAfter, tableWordRunAt}
+use Rattle.input.specs.Requests.{pairOf, secondAfter, twoRunsAt, bytesAt, wordAfterBytes, bytesWordAt}
+use Rattle.input.specs.Requests.{readOf, lookupOf, generateOf, simulateOf, decodeOf, encodeOf, walkOf, requestOf, requestAt}
 use Rattle.input.specs.declared.Part.{Part}
 use Rattle.input.specs.declared.Run.{Run}
 use Rattle.input.specs.declared.Run.the-variants as run
@@ -15,8 +17,14 @@ use Rattle.input.specs.declared.TableWord.{TableWord}
 use Rattle.input.specs.declared.TableWord.the-variants as two
 use Rattle.input.specs.declared.TableWordRun.{TableWordRun}
 use Rattle.input.specs.declared.TableWordRun.the-variants as three
+use Rattle.input.specs.declared.TwoRuns.{TwoRuns}
+use Rattle.input.specs.declared.TwoRuns.the-variants as runs
+use Rattle.input.specs.declared.Bytes.{Bytes}
+use Rattle.input.specs.declared.Bytes.the-variants as bytes
+use Rattle.input.specs.declared.BytesWord.{BytesWord}
+use Rattle.input.specs.declared.BytesWord.the-variants as octets
 use Rattle.input.specs.declared.Request.{Request}
-use Rattle.input.specs.declared.Request.the-variants.{Read, Lookup, Decode, Encode, Stopped}
+use Rattle.input.specs.declared.Request.the-variants.{Read, Lookup, Generate, Simulate, Decode, Encode, Walk, Stopped}
 
 -- by cases on a test
 cases : {G : Type 0} (b : Bool) → (b ≡ true → G) → (b ≡ false → G) → G
@@ -57,6 +65,39 @@ module _ (ws : List ℕ) (at : ℕ) where
   unfolding tableWordRunAt runAfter
   last-of e h = rw (e, h)
 
+  -- a second run may follow the first
+  pub no-first : runAt ws at ≡ run.Short → runs.Short ≡ twoRunsAt ws at
+  unfolding twoRunsAt secondAfter
+  no-first e = rw e
+
+  pub second-of : {first : Part} {r : Run} → runAt ws at ≡ run.Whole first → runAt ws (first .after) ≡ r → pairOf first r ≡ twoRunsAt ws at
+  unfolding twoRunsAt secondAfter
+  second-of e h = rw (e, h)
+
+  -- bytes are whole where the words reach past their padding
+  pub bytes-short : length ws < at + 1 + (getD ws at 0 + 3) / 4 → bytes.Short ≡ bytesAt ws at
+  unfolding bytesAt
+  bytes-short h = rw (lt-leb (at + 1 + (getD ws at 0 + 3) / 4) (length ws) h)
+
+  pub bytes-whole : at + 1 + (getD ws at 0 + 3) / 4 ≤ length ws
+      → bytes.Whole (record { first = (at + 1) * 4; after = (at + 1) * 4 + getD ws at 0 }) (at + 1 + (getD ws at 0 + 3) / 4) ≡ bytesAt ws at
+  unfolding bytesAt
+  bytes-whole h = rw (le-leb (at + 1 + (getD ws at 0 + 3) / 4) (length ws) h)
+
+  -- and a word may follow them
+  pub no-bytes : bytesAt ws at ≡ bytes.Short → octets.Short ≡ bytesWordAt ws at
+  unfolding bytesWordAt wordAfterBytes
+  no-bytes e = rw e
+
+  pub bytes-word-short : {part : Part} {next : ℕ} → bytesAt ws at ≡ bytes.Whole part next → length ws ≤ next → octets.Short ≡ bytesWordAt ws at
+  unfolding bytesWordAt wordAfterBytes
+  bytes-word-short {part} {next} e h = rw (e, le-ltb next (length ws) h)
+
+  pub bytes-word-whole : {part : Part} {next : ℕ} → bytesAt ws at ≡ bytes.Whole part next → next < length ws
+      → octets.Whole part (getD ws next 0) (next + 1) ≡ bytesWordAt ws at
+  unfolding bytesWordAt wordAfterBytes
+  bytes-word-whole {part} {next} e h = rw (e, lt-ltb next (length ws) h)
+
   -- past the end nothing is asked
   pub request-past : length ws ≤ at → Stopped ≡ requestAt ws at
   unfolding requestAt requestOf
@@ -67,10 +108,20 @@ module _ (ws : List ℕ) (at : ℕ) where
   unfolding requestAt
   request-known h = ap (λ (n : ℕ). requestOf n ws (at + 1)) (sym h)
 
-  pub request-unknown : (getD ws at 0 ≡ 1 → ⊥) → (getD ws at 0 ≡ 2 → ⊥) → (getD ws at 0 ≡ 5 → ⊥) → (getD ws at 0 ≡ 6 → ⊥)
+  pub request-unknown : (getD ws at 0 ≡ 1 → ⊥) → (getD ws at 0 ≡ 2 → ⊥) → (getD ws at 0 ≡ 3 → ⊥) → (getD ws at 0 ≡ 4 → ⊥)
+      → (getD ws at 0 ≡ 5 → ⊥) → (getD ws at 0 ≡ 6 → ⊥) → (getD ws at 0 ≡ 10 → ⊥)
       → Stopped ≡ requestAt ws at
   unfolding requestAt requestOf
-  request-unknown a b c d = rw (ne-eqb (getD ws at 0) 1 a, ne-eqb (getD ws at 0) 2 b, ne-eqb (getD ws at 0) 5 c, ne-eqb (getD ws at 0) 6 d)
+  request-unknown a b c d e f g =
+      rw (
+        ne-eqb (getD ws at 0) 1 a,
+        ne-eqb (getD ws at 0) 2 b,
+        ne-eqb (getD ws at 0) 3 c,
+        ne-eqb (getD ws at 0) 4 d,
+        ne-eqb (getD ws at 0) 5 e,
+        ne-eqb (getD ws at 0) 6 f,
+        ne-eqb (getD ws at 0) 10 g,
+      )
 
 -- a run's words lie within all words, past an index
 pub record Lies (ws : List ℕ) (at : ℕ) (part : Part) : Type 0 where
@@ -91,11 +142,33 @@ unfoldable ThreeWithin : List ℕ → ℕ → TableWordRun → Type 0
 ThreeWithin ws at (three.Whole table word last) = Lies ws at table × Lies ws (table .after) last
 ThreeWithin ws at three.Short = Unit {0}
 
+unfoldable RunsWithin : List ℕ → ℕ → TwoRuns → Type 0
+RunsWithin ws at (runs.Whole first second) = Lies ws at first × Lies ws at second
+RunsWithin ws at runs.Short = Unit {0}
+
+-- the same of bytes, of which there are four to a word, and of the word after them
+pub record BytesLie (ws : List ℕ) (at : ℕ) (part : Part) (next : ℕ) : Type 0 where
+  pub order : part .first ≤ part .after
+  pub inside : part .after ≤ length ws * 4
+  pub past : at < next
+  pub reach : next ≤ length ws
+
+unfoldable BytesWithin : List ℕ → ℕ → Bytes → Type 0
+BytesWithin ws at (bytes.Whole part next) = BytesLie ws at part next
+BytesWithin ws at bytes.Short = Unit {0}
+
+unfoldable OctetsWithin : List ℕ → ℕ → BytesWord → Type 0
+OctetsWithin ws at (octets.Whole part word next) = BytesLie ws at part next
+OctetsWithin ws at octets.Short = Unit {0}
+
 unfoldable Within : List ℕ → ℕ → Request → Type 0
 Within ws at (Read table) = Lies ws at table
 Within ws at (Lookup table word) = Lies ws at table × (table .after < length ws)
+Within ws at (Generate table buffer) = Lies ws at table × Lies ws at buffer
+Within ws at (Simulate tree word next) = BytesLie ws at tree next
 Within ws at (Decode table word buffer) = Lies ws at table × Lies ws (table .after) buffer
 Within ws at (Encode table entry values) = Lies ws at table × Lies ws (table .after) values
+Within ws at (Walk tree word) = Lies ws at tree × (tree .after < length ws)
 Within ws at Stopped = Unit {0}
 
 -- what lies past an index lies past the one before it
@@ -135,6 +208,46 @@ three-within : (ws : List ℕ) (at : ℕ) → ThreeWithin ws at (tableWordRunAt 
 unfolding tableWordRunAt
 three-within ws at = run-after-within ws at (tableWordAt ws at) (two-within ws at)
 
+-- what lies past an index lies past an earlier one
+later-lies : {ws : List ℕ} {at : ℕ} {first second : Part} → Lies ws at first → Lies ws (first .after) second → Lies ws at second
+later-lies l m = record { past = omega (arith, l .past, l .order, m .past); order = m .order; inside = m .inside }
+
+pair-within : (ws : List ℕ) (at : ℕ) (first : Part) (r : Run) → Lies ws at first → RunWithin ws (first .after) r → RunsWithin ws at (pairOf first r)
+unfolding RunWithin RunsWithin pairOf
+pair-within ws at first (run.Whole second) l w = (l, later-lies l w)
+pair-within ws at first run.Short l w = tt
+
+second-after-within : (ws : List ℕ) (at : ℕ) (r : Run) → RunWithin ws at r → RunsWithin ws at (secondAfter ws r)
+unfolding RunWithin RunsWithin secondAfter
+second-after-within ws at (run.Whole first) w = pair-within ws at first (runAt ws (first .after)) w (run-within ws (first .after))
+second-after-within ws at run.Short w = tt
+
+runs-within : (ws : List ℕ) (at : ℕ) → RunsWithin ws at (twoRunsAt ws at)
+unfolding twoRunsAt
+runs-within ws at = second-after-within ws at (runAt ws at) (run-within ws at)
+
+bytes-within : (ws : List ℕ) (at : ℕ) → BytesWithin ws at (bytesAt ws at)
+unfolding bytesAt BytesWithin
+bytes-within ws at =
+    let b = getD ws at 0 in
+    cases (leb (at + 1 + (b + 3) / 4) (length ws))
+    (λ t. let h = leb-true (at + 1 + (b + 3) / 4) (length ws) t in
+    rw t (record { order = omega arith; inside = omega arith; past = omega arith; reach = h }))
+    (λ t. rw t tt)
+
+octets-of-within : (ws : List ℕ) (at : ℕ) (r : Bytes) → BytesWithin ws at r → OctetsWithin ws at (wordAfterBytes ws r)
+unfolding BytesWithin OctetsWithin wordAfterBytes
+octets-of-within ws at (bytes.Whole part next) w =
+    cases (ltb next (length ws))
+    (λ t. let h = ltb-true next (length ws) t in
+    rw t (record { order = w .order; inside = w .inside; past = omega (arith, w .past); reach = omega arith }))
+    (λ t. rw t tt)
+octets-of-within ws at bytes.Short w = tt
+
+octets-within : (ws : List ℕ) (at : ℕ) → OctetsWithin ws at (bytesWordAt ws at)
+unfolding bytesWordAt
+octets-within ws at = octets-of-within ws at (bytesAt ws at) (bytes-within ws at)
+
 -- a request's parts lie past its number
 read-of-within : (ws : List ℕ) (at : ℕ) (r : Run) → RunWithin ws (at + 1) r → Within ws at (readOf r)
 unfolding RunWithin Within readOf
@@ -146,6 +259,17 @@ unfolding TwoWithin Within lookupOf
 lookup-of-within ws at (two.Whole table word) w = (sooner (w .0), w .1)
 lookup-of-within ws at two.Short w = tt
 
+generate-of-within : (ws : List ℕ) (at : ℕ) (r : TwoRuns) → RunsWithin ws (at + 1) r → Within ws at (generateOf r)
+unfolding RunsWithin Within generateOf
+generate-of-within ws at (runs.Whole table buffer) w = (sooner (w .0), sooner (w .1))
+generate-of-within ws at runs.Short w = tt
+
+simulate-of-within : (ws : List ℕ) (at : ℕ) (r : BytesWord) → OctetsWithin ws (at + 1) r → Within ws at (simulateOf r)
+unfolding OctetsWithin Within simulateOf
+simulate-of-within ws at (octets.Whole tree word next) w =
+    record { order = w .order; inside = w .inside; past = omega (arith, w .past); reach = w .reach }
+simulate-of-within ws at octets.Short w = tt
+
 decode-of-within : (ws : List ℕ) (at : ℕ) (r : TableWordRun) → ThreeWithin ws (at + 1) r → Within ws at (decodeOf r)
 unfolding ThreeWithin Within decodeOf
 decode-of-within ws at (three.Whole table word buffer) w = (sooner (w .0), w .1)
@@ -156,14 +280,22 @@ unfolding ThreeWithin Within encodeOf
 encode-of-within ws at (three.Whole table entry values) w = (sooner (w .0), w .1)
 encode-of-within ws at three.Short w = tt
 
+walk-of-within : (ws : List ℕ) (at : ℕ) (r : TableWord) → TwoWithin ws (at + 1) r → Within ws at (walkOf r)
+unfolding TwoWithin Within walkOf
+walk-of-within ws at (two.Whole tree word) w = (sooner (w .0), w .1)
+walk-of-within ws at two.Short w = tt
+
 request-within : (ws : List ℕ) (at : ℕ) → Within ws at (requestAt ws at)
 unfolding requestAt requestOf Within
 request-within ws at =
     cases (eqb (getD ws at 0) 1) (λ t. rw t (read-of-within ws at (runAt ws (at + 1)) (run-within ws (at + 1))))
     (λ f. rw f (cases (eqb (getD ws at 0) 2) (λ t. rw t (lookup-of-within ws at (tableWordAt ws (at + 1)) (two-within ws (at + 1))))
+    (λ f. rw f (cases (eqb (getD ws at 0) 3) (λ t. rw t (generate-of-within ws at (twoRunsAt ws (at + 1)) (runs-within ws (at + 1))))
+    (λ f. rw f (cases (eqb (getD ws at 0) 4) (λ t. rw t (simulate-of-within ws at (bytesWordAt ws (at + 1)) (octets-within ws (at + 1))))
     (λ f. rw f (cases (eqb (getD ws at 0) 5) (λ t. rw t (decode-of-within ws at (tableWordRunAt ws (at + 1)) (three-within ws (at + 1))))
     (λ f. rw f (cases (eqb (getD ws at 0) 6) (λ t. rw t (encode-of-within ws at (tableWordRunAt ws (at + 1)) (three-within ws (at + 1))))
-    (λ f. rw f tt)))))))
+    (λ f. rw f (cases (eqb (getD ws at 0) 10) (λ t. rw t (walk-of-within ws at (tableWordAt ws (at + 1)) (two-within ws (at + 1))))
+    (λ f. rw f tt)))))))))))))
 
 -- where the parts of each kind of request lie
 module _ (ws : List ℕ) (at : ℕ) where
@@ -179,6 +311,14 @@ module _ (ws : List ℕ) (at : ℕ) where
   unfolding Within
   lookup-within e = subst (Within ws at) e (request-within ws at)
 
+  pub generate-within : {table buffer : Part} → requestAt ws at ≡ Generate table buffer → Lies ws at table × Lies ws at buffer
+  unfolding Within
+  generate-within e = subst (Within ws at) e (request-within ws at)
+
+  pub simulate-within : {tree : Part} {word next : ℕ} → requestAt ws at ≡ Simulate tree word next → BytesLie ws at tree next
+  unfolding Within
+  simulate-within e = subst (Within ws at) e (request-within ws at)
+
   pub decode-within : {table : Part} {word : ℕ} {buffer : Part} → requestAt ws at ≡ Decode table word buffer
       → Lies ws at table × Lies ws (table .after) buffer
   unfolding Within
@@ -188,3 +328,7 @@ module _ (ws : List ℕ) (at : ℕ) where
       → Lies ws at table × Lies ws (table .after) values
   unfolding Within
   encode-within e = subst (Within ws at) e (request-within ws at)
+
+  pub walk-within : {tree : Part} {word : ℕ} → requestAt ws at ≡ Walk tree word → Lies ws at tree × (tree .after < length ws)
+  unfolding Within
+  walk-within e = subst (Within ws at) e (request-within ws at)

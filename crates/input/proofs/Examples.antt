@@ -1,13 +1,16 @@
 -- Input written apart, computed from the definitions. Assumes nothing.
 use Prim.Native.Nat.{ℕ}
+use mathlib.Core.Bool.{true, false}
 use mathlib.Core.Path.{_≡_, refl}
 use mathlib.Core.List.{List, [], _∷_}
-use Rattle.input.specs.Bytes.{wordOf, wordsOf, written, filled}
-use Rattle.input.specs.Requests.{runAt, wordAfter, tableWordAt, withRun, runAfter, tableWordRunAt, readOf, lookupOf, decodeOf, encodeOf, requestOf, requestAt}
+use lib.ListN.{replicate}
+use Rattle.words.specs.Bytes.{wordOf, wordsOf}
+use Rattle.input.specs.Bytes.{written, filled, isTable}
+use Rattle.input.specs.Requests.{runAt, wordAfter, tableWordAt, withRun, runAfter, tableWordRunAt, pairOf, secondAfter, twoRunsAt, bytesAt, wordAfterBytes, bytesWordAt, readOf, lookupOf, generateOf, simulateOf, decodeOf, encodeOf, walkOf, requestOf, requestAt}
 use Rattle.input.specs.declared.Part.{Part}
 use Rattle.input.specs.declared.Run.the-variants.{Whole, Short}
 use Rattle.input.specs.declared.Request.{Request}
-use Rattle.input.specs.declared.Request.the-variants.{Read, Lookup, Decode, Encode, Stopped}
+use Rattle.input.specs.declared.Request.the-variants.{Read, Lookup, Generate, Simulate, Decode, Encode, Walk, Stopped}
 
 -- a word and one byte more: low byte first, and the rest left out
 words-are : wordsOf (0x10 ∷ 0x32 ∷ 0x54 ∷ 0x76 ∷ 0x98 ∷ []) ≡ 0x76543210 ∷ []
@@ -19,9 +22,26 @@ buffer-is : filled (1 ∷ 0 ∷ 0 ∷ 0 ∷ 5 ∷ []) (7 ∷ 8 ∷ []) ≡ 1 ∷
 unfolding wordOf wordsOf written filled
 buffer-is = refl
 
+-- no bytes, the longest table, one word more, and a word with a byte left over
+none-is : isTable [] ≡ true
+unfolding isTable
+none-is = refl
+
+longest-is : isTable (replicate 65536 7) ≡ true
+unfolding isTable
+longest-is = refl
+
+longer-is : isTable (replicate 65540 7) ≡ false
+unfolding isTable
+longer-is = refl
+
+rest-is : isTable (1 ∷ 0 ∷ 0 ∷ 0 ∷ 5 ∷ []) ≡ false
+unfolding isTable
+rest-is = refl
+
 -- what is asked, with every definition open
 opened : List ℕ → ℕ → Request
-unfolding runAt wordAfter tableWordAt withRun runAfter tableWordRunAt readOf lookupOf decodeOf encodeOf requestOf requestAt
+unfolding runAt wordAfter tableWordAt withRun runAfter tableWordRunAt pairOf secondAfter twoRunsAt bytesAt wordAfterBytes bytesWordAt readOf lookupOf generateOf simulateOf decodeOf encodeOf walkOf requestOf requestAt
 opened ws at = requestAt ws at
 
 abbrev part : ℕ → ℕ → Part
@@ -66,6 +86,57 @@ lookup-long : requestAt (2 ∷ 3 ∷ 8 ∷ 9 ∷ 7 ∷ []) 0 ≡ Stopped
 unfolding opened
 lookup-long = refl
 
+-- a tree to be generated from a table of one word, into a buffer of two words, and of none; without the buffer's last word, its count, or the table
+generate-is : requestAt (3 ∷ 1 ∷ 9 ∷ 2 ∷ 3 ∷ 4 ∷ []) 0 ≡ Generate (part 2 3) (part 4 6)
+unfolding opened
+generate-is = refl
+
+generate-empty : requestAt (3 ∷ 1 ∷ 9 ∷ 0 ∷ []) 0 ≡ Generate (part 2 3) (part 4 4)
+unfolding opened
+generate-empty = refl
+
+generate-cut : requestAt (3 ∷ 1 ∷ 9 ∷ 2 ∷ 3 ∷ []) 0 ≡ Stopped
+unfolding opened
+generate-cut = refl
+
+generate-no-buffer : requestAt (3 ∷ 1 ∷ 9 ∷ []) 0 ≡ Stopped
+unfolding opened
+generate-no-buffer = refl
+
+generate-no-table : requestAt (3 ∷ []) 0 ≡ Stopped
+unfolding opened
+generate-no-table = refl
+
+-- word 7 for a tree of five bytes, of eight and of none, after a request to read
+simulate-five : requestAt (4 ∷ 5 ∷ 8 ∷ 9 ∷ 7 ∷ []) 0 ≡ Simulate (part 8 13) 7 5
+unfolding opened
+simulate-five = refl
+
+simulate-eight : requestAt (4 ∷ 8 ∷ 8 ∷ 9 ∷ 7 ∷ []) 0 ≡ Simulate (part 8 16) 7 5
+unfolding opened
+simulate-eight = refl
+
+simulate-none : requestAt (1 ∷ 0 ∷ 4 ∷ 0 ∷ 7 ∷ []) 2 ≡ Simulate (part 16 16) 7 5
+unfolding opened
+simulate-none = refl
+
+-- without the word, with a ninth byte, with the largest count, and without a count
+simulate-cut : requestAt (4 ∷ 5 ∷ 8 ∷ 9 ∷ []) 0 ≡ Stopped
+unfolding opened
+simulate-cut = refl
+
+simulate-nine : requestAt (4 ∷ 9 ∷ 8 ∷ 9 ∷ 7 ∷ []) 0 ≡ Stopped
+unfolding opened
+simulate-nine = refl
+
+simulate-long : requestAt (4 ∷ 0xffffffff ∷ 8 ∷ 9 ∷ 7 ∷ []) 0 ≡ Stopped
+unfolding opened
+simulate-long = refl
+
+simulate-no-tree : requestAt (4 ∷ []) 0 ≡ Stopped
+unfolding opened
+simulate-no-tree = refl
+
 -- word 7 to decode into a buffer of two words; without the buffer's last word, its count, or the word
 decode-is : requestAt (5 ∷ 1 ∷ 9 ∷ 7 ∷ 2 ∷ 3 ∷ 4 ∷ []) 0 ≡ Decode (part 2 3) 7 (part 5 7)
 unfolding opened
@@ -95,3 +166,16 @@ encode-cut = refl
 encode-long : requestAt (6 ∷ 1 ∷ 9 ∷ 7 ∷ 0xffffffff ∷ 3 ∷ 4 ∷ []) 0 ≡ Stopped
 unfolding opened
 encode-long = refl
+
+-- word 7 for a tree of two words; without the word; with a count that takes the word for the tree's
+walk-is : requestAt (10 ∷ 2 ∷ 8 ∷ 9 ∷ 7 ∷ []) 0 ≡ Walk (part 2 4) 7
+unfolding opened
+walk-is = refl
+
+walk-cut : requestAt (10 ∷ 2 ∷ 8 ∷ 9 ∷ []) 0 ≡ Stopped
+unfolding opened
+walk-cut = refl
+
+walk-long : requestAt (10 ∷ 3 ∷ 8 ∷ 9 ∷ 7 ∷ []) 0 ≡ Stopped
+unfolding opened
+walk-long = refl

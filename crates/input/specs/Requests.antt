@@ -1,5 +1,5 @@
 -- Runs and requests in a list of words.
-use Prim.Native.Nat.{ℕ, _+_}
+use Prim.Native.Nat.{ℕ, _+_, _*_, _/_}
 use mathlib.Core.Bool.{cond}
 use mathlib.Core.List.{List}
 use lib.Dec.{leb, ltb, eqb}
@@ -11,8 +11,14 @@ use Rattle.input.specs.declared.TableWord.{TableWord}
 use Rattle.input.specs.declared.TableWord.the-variants as two
 use Rattle.input.specs.declared.TableWordRun.{TableWordRun}
 use Rattle.input.specs.declared.TableWordRun.the-variants as three
+use Rattle.input.specs.declared.TwoRuns.{TwoRuns}
+use Rattle.input.specs.declared.TwoRuns.the-variants as runs
+use Rattle.input.specs.declared.Bytes.{Bytes}
+use Rattle.input.specs.declared.Bytes.the-variants as bytes
+use Rattle.input.specs.declared.BytesWord.{BytesWord}
+use Rattle.input.specs.declared.BytesWord.the-variants as octets
 use Rattle.input.specs.declared.Request.{Request}
-use Rattle.input.specs.declared.Request.the-variants.{Read, Lookup, Decode, Encode, Stopped}
+use Rattle.input.specs.declared.Request.the-variants.{Read, Lookup, Generate, Simulate, Decode, Encode, Walk, Stopped}
 
 -- a run is a word n and then n words: the indices of its first word and after its last, if the words reach so far
 unfoldable pub runAt : List ℕ → ℕ → Run
@@ -38,6 +44,33 @@ runAfter ws two.Short = three.Short
 unfoldable pub tableWordRunAt : List ℕ → ℕ → TableWordRun
 tableWordRunAt ws at = runAfter ws (tableWordAt ws at)
 
+-- two runs, one after the other
+unfoldable pub pairOf : Part → Run → TwoRuns
+pairOf first (run.Whole second) = runs.Whole first second
+pairOf first run.Short = runs.Short
+
+unfoldable pub secondAfter : List ℕ → Run → TwoRuns
+secondAfter ws (run.Whole first) = pairOf first (runAt ws (first .after))
+secondAfter ws run.Short = runs.Short
+
+unfoldable pub twoRunsAt : List ℕ → ℕ → TwoRuns
+twoRunsAt ws at = secondAfter ws (runAt ws at)
+
+-- bytes are a word b and then b bytes, padded to a whole word: the indices, in bytes, of the first and after the last, and that of the word after the padding, if the words reach so far
+unfoldable pub bytesAt : List ℕ → ℕ → Bytes
+bytesAt ws at =
+    let b = getD ws at 0 in
+    let next = at + 1 + (b + 3) / 4 in
+    cond (leb next (length ws)) (bytes.Whole (record { first = (at + 1) * 4; after = (at + 1) * 4 + b }) next) bytes.Short
+
+-- bytes, and the word after them
+unfoldable pub wordAfterBytes : List ℕ → Bytes → BytesWord
+wordAfterBytes ws (bytes.Whole part next) = cond (ltb next (length ws)) (octets.Whole part (getD ws next 0) (next + 1)) octets.Short
+wordAfterBytes ws bytes.Short = octets.Short
+
+unfoldable pub bytesWordAt : List ℕ → ℕ → BytesWord
+bytesWordAt ws at = wordAfterBytes ws (bytesAt ws at)
+
 -- request 1: a table to read
 unfoldable pub readOf : Run → Request
 readOf (run.Whole table) = Read table
@@ -47,6 +80,16 @@ readOf run.Short = Stopped
 unfoldable pub lookupOf : TableWord → Request
 lookupOf (two.Whole table word) = Lookup table word
 lookupOf two.Short = Stopped
+
+-- request 3: a table, and a buffer for its tree
+unfoldable pub generateOf : TwoRuns → Request
+generateOf (runs.Whole table buffer) = Generate table buffer
+generateOf runs.Short = Stopped
+
+-- request 4: a tree as bytes, and a word to walk it with
+unfoldable pub simulateOf : BytesWord → Request
+simulateOf (octets.Whole tree word next) = Simulate tree word next
+simulateOf octets.Short = Stopped
 
 -- request 5: a table, a word to decode, and a buffer
 unfoldable pub decodeOf : TableWordRun → Request
@@ -58,14 +101,22 @@ unfoldable pub encodeOf : TableWordRun → Request
 encodeOf (three.Whole table entry values) = Encode table entry values
 encodeOf three.Short = Stopped
 
+-- request 10: a tree, and a word to walk it with
+unfoldable pub walkOf : TableWord → Request
+walkOf (two.Whole tree word) = Walk tree word
+walkOf two.Short = Stopped
+
 -- what goes with a request's number, from index `at` on; an unknown number stops
 unfoldable pub requestOf : ℕ → List ℕ → ℕ → Request
 requestOf number ws at =
     cond (eqb number 1) (readOf (runAt ws at))
     (cond (eqb number 2) (lookupOf (tableWordAt ws at))
+    (cond (eqb number 3) (generateOf (twoRunsAt ws at))
+    (cond (eqb number 4) (simulateOf (bytesWordAt ws at))
     (cond (eqb number 5) (decodeOf (tableWordRunAt ws at))
     (cond (eqb number 6) (encodeOf (tableWordRunAt ws at))
-    Stopped)))
+    (cond (eqb number 10) (walkOf (tableWordAt ws at))
+    Stopped))))))
 
 -- a request is its number and what goes with that; past the end the number is 0, which no request has
 unfoldable pub requestAt : List ℕ → ℕ → Request

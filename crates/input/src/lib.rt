@@ -1,25 +1,9 @@
 // How the programs take their input apart: bytes into words, and words into requests.
 ghost use mathlib.Core.Path.{_≡_};
-ghost use Prim.Native.Nat.{_+_, _*_, _≤_, min};
-ghost use lib.ListN.{length, getD};
-ghost use Rattle.input.specs.Bytes.{wordOf, wordsOf, Fills};
-ghost use Rattle.input.specs.Requests.{runAt, tableWordAt, tableWordRunAt, readOf, lookupOf, decodeOf, encodeOf, requestAt};
-
-// The word of four bytes, low byte first.
-fn word_of(a: u8, b: u8, c: u8, d: u8) -> u32
-    ensures { λ r. ⌜ r ≡ wordOf a b c d ⌝ }
-{
-    (((a as u32) | ((b as u32) << 8)) | ((c as u32) << 16)) | ((d as u32) << 24)
-}
-
-// Word i of the bytes, which have it whole.
-fn word_at(bytes: &[u8], i: usize) -> u32
-    requires { ⌜ i * 4 + 4 ≤ length (now bytes) ⌝ }
-    ensures { λ r. ⌜ r ≡ getD (wordsOf (now (bytes .entry))) i 0 ⌝ }
-{
-    let k = i * 4;
-    word_of(bytes[k], bytes[k + 1], bytes[k + 2], bytes[k + 3])
-}
+ghost use Prim.Native.Nat.{min};
+ghost use Rattle.input.specs.Bytes.{isTable, Fills};
+ghost use Rattle.input.specs.Requests.{runAt, tableWordAt, tableWordRunAt, twoRunsAt, bytesAt, bytesWordAt};
+ghost use Rattle.input.specs.Requests.{readOf, lookupOf, generateOf, simulateOf, decodeOf, encodeOf, walkOf, requestAt};
 
 // The smaller of two numbers.
 fn least(a: usize, b: usize) -> usize
@@ -36,10 +20,23 @@ pub fn words_of(bytes: &[u8], out: &mut [u32]) -> usize
     let n = least(bytes.len() / 4, out.len());
     let mut i = 0;
     while i < n {
-        out[i] = word_at(bytes, i);
+        out[i] = words::word_in(bytes, i);
         i += 1;
     }
     n
+}
+
+// The bytes of the longest table.
+const TABLE_BYTES: usize = 65536;
+
+// Whether bytes can be a table: whole words, and no more than the longest has.
+pub fn is_table(bytes: &[u8]) -> bool
+    ensures { λ r. ⌜ r ≡ isTable (now (bytes .entry)) ⌝ }
+{
+    if TABLE_BYTES < bytes.len() {
+        return false;
+    }
+    bytes.len() % 4 == 0
 }
 
 // Where words lie: the index of the first, and the index after the last.
@@ -111,13 +108,84 @@ fn table_word_run_at(ws: &[u32], at: usize) -> TableWordRun
     TableWordRun::Whole(table, word, last)
 }
 
+// Two runs, one after the other.
+enum TwoRuns {
+    Whole(Part, Part),
+    Short,
+}
+
+// The two runs at an index, if the words hold both.
+fn two_runs_at(ws: &[u32], at: usize) -> TwoRuns
+    ensures { λ r. ⌜ r ≡ twoRunsAt (now (ws .entry)) at ⌝ }
+{
+    let Run::Whole(first) = run_at(ws, at) else {
+        return TwoRuns::Short;
+    };
+    let next = first.after;
+    let Run::Whole(second) = run_at(ws, next) else {
+        return TwoRuns::Short;
+    };
+    TwoRuns::Whole(first, second)
+}
+
+// A word b and then b bytes, padded to a whole word: where those b lie, counted in bytes, and the
+// index of the word after them.
+enum Bytes {
+    Whole(Part, usize),
+    Short,
+}
+
+// The bytes at an index, if the words hold all of them.
+fn bytes_at(ws: &[u32], at: usize) -> Bytes
+    ensures { λ r. ⌜ r ≡ bytesAt (now (ws .entry)) at ⌝ }
+{
+    if ws.len() <= at {
+        return Bytes::Short;
+    }
+    let n = ws[at] as usize;
+    let start = at + 1;
+    let padded = (n + 3) / 4;
+    if ws.len() - start < padded {
+        return Bytes::Short;
+    }
+    let next = start + padded;
+    let first = start * 4;
+    let after = first + n;
+    Bytes::Whole(Part { first, after }, next)
+}
+
+// Bytes, the word after them, and the index of the word after that.
+enum BytesWord {
+    Whole(Part, u32, usize),
+    Short,
+}
+
+// The bytes and the word at an index, if the words hold both.
+fn bytes_word_at(ws: &[u32], at: usize) -> BytesWord
+    ensures { λ r. ⌜ r ≡ bytesWordAt (now (ws .entry)) at ⌝ }
+{
+    let Bytes::Whole(bytes, next) = bytes_at(ws, at) else {
+        return BytesWord::Short;
+    };
+    if ws.len() <= next {
+        return BytesWord::Short;
+    }
+    let word = ws[next];
+    let after = next + 1;
+    BytesWord::Whole(bytes, word, after)
+}
+
 // What is asked: where its runs lie, and its words. The next request begins after the last run, or,
-// where a word follows that, after the word.
+// where a word follows that, after the word. Where a part counts bytes, the request also says at
+// which word the next one begins.
 pub enum Request {
     Read(Part),
     Lookup(Part, u32),
+    Generate(Part, Part),
+    Simulate(Part, u32, usize),
     Decode(Part, u32, Part),
     Encode(Part, u32, Part),
+    Walk(Part, u32),
     Stopped,
 }
 
@@ -141,6 +209,26 @@ fn lookup_at(ws: &[u32], at: usize) -> Request
     }
 }
 
+// What follows the number 3: a table, and a buffer for its tree.
+fn generate_at(ws: &[u32], at: usize) -> Request
+    ensures { λ r. ⌜ r ≡ generateOf (twoRunsAt (now (ws .entry)) at) ⌝ }
+{
+    match two_runs_at(ws, at) {
+        TwoRuns::Whole(table, buffer) => Request::Generate(table, buffer),
+        TwoRuns::Short => Request::Stopped,
+    }
+}
+
+// What follows the number 4: a tree as bytes, and a word to walk it with as a simulator does.
+fn simulate_at(ws: &[u32], at: usize) -> Request
+    ensures { λ r. ⌜ r ≡ simulateOf (bytesWordAt (now (ws .entry)) at) ⌝ }
+{
+    match bytes_word_at(ws, at) {
+        BytesWord::Whole(tree, word, next) => Request::Simulate(tree, word, next),
+        BytesWord::Short => Request::Stopped,
+    }
+}
+
 // What follows the number 5: a table, a word to decode, and a buffer for its fields.
 fn decode_at(ws: &[u32], at: usize) -> Request
     ensures { λ r. ⌜ r ≡ decodeOf (tableWordRunAt (now (ws .entry)) at) ⌝ }
@@ -161,6 +249,16 @@ fn encode_at(ws: &[u32], at: usize) -> Request
     }
 }
 
+// What follows the number 10: a tree, and a word to walk it with.
+fn walk_at(ws: &[u32], at: usize) -> Request
+    ensures { λ r. ⌜ r ≡ walkOf (tableWordAt (now (ws .entry)) at) ⌝ }
+{
+    match table_word_at(ws, at) {
+        TableWord::Whole(tree, word) => Request::Walk(tree, word),
+        TableWord::Short => Request::Stopped,
+    }
+}
+
 // The request at an index; Stopped where its number is not known or the words do not hold all of it.
 pub fn request_at(ws: &[u32], at: usize) -> Request
     ensures { λ r. ⌜ r ≡ requestAt (now (ws .entry)) at ⌝ }
@@ -173,8 +271,11 @@ pub fn request_at(ws: &[u32], at: usize) -> Request
     match number {
         1 => read_at(ws, next),
         2 => lookup_at(ws, next),
+        3 => generate_at(ws, next),
+        4 => simulate_at(ws, next),
         5 => decode_at(ws, next),
         6 => encode_at(ws, next),
+        10 => walk_at(ws, next),
         _ => Request::Stopped,
     }
 }

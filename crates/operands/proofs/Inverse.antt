@@ -21,6 +21,7 @@ use Rattle.table.specs.Outcome.{Outcome, result, refused}
 use Rattle.table.specs.Check.{fine, tableCheck, entryCheck, patternCheck, readTable, entriesCheck}
 use Rattle.table.proofs.Laws.{then-l, then-r, need-true, head-below, length-entries}
 use Rattle.table.proofs.Views.{entry-check, entry-at}
+use Rattle.selection.proofs.Judging.{choice-names}
 use Rattle.selection.specs.Selection.{Choice, names, nothing, ambiguous, choiceOf, select, judge, beats, claims, matches}
 use Rattle.operands.specs.Fields.{valueIn, valuesIn, placed, misfit}
 use Rattle.operands.specs.Calls.{Decoded, entry-values, decodedAs, decodeOf, selects, encodedAs, encodedFrom, encodeOf}
@@ -64,11 +65,6 @@ values-fit [] w i = refl
 values-fit (f ∷ fs) w i = rw (lt-ltb (part w (f .low) (f .width)) (2 ^ (f .width)) (part-lt w (f .low) (f .width))) (values-fit fs w (i + 1))
 
 -- ---- the selected entry
-choice-names : (o : Option ℕ) (b : Bool) (i : ℕ) → choiceOf o b ≡ names i → o ≡ some i
-choice-names (some j) b i e = cc
-choice-names none true i e = cc
-choice-names none false i e = cc
-
 module _ (es : List Entry) (w e : ℕ) (s : select es w ≡ names e) where
   selected-first : (e < length es) × (claims w (entryNumber es e) and beats es (claims w) e ≡ true)
   unfolding select judge

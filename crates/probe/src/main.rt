@@ -8,9 +8,11 @@ use operands::Decoding;
 use operands::Encoding;
 use selection::Selected;
 use table::Answer;
+use tree::Generated;
+use walker::Walked;
 ghost use mathlib.Core.List.{_++_};
 ghost use mathlib.Core.Path.{_≡_};
-ghost use Prim.Native.Nat.{_≤_, _<_, _^_};
+ghost use Prim.Native.Nat.{_*_, _≤_, _<_, _^_};
 ghost use lib.ListN.{length, drop};
 
 // The most that is taken from standard input.
@@ -50,12 +52,12 @@ fn put_head(line: &mut [u8], request: u32, number: u32, place: u32, word: u32) -
     put_word(line, third, word)
 }
 
-// The line of an entry that was found.
-fn put_entry(line: &mut [u8], request: u32, entry: u32) -> usize
+// The line of a result that is a number, such as an entry.
+fn put_result(line: &mut [u8], request: u32, result: u32) -> usize
     ensures { λ r. ⌜ r ≤ length (now (line .exit)) ⌝ }
 {
     let head = put_head(line, request, 0, 0, 0);
-    put_number(line, head, entry)
+    put_number(line, head, result)
 }
 
 // The line of the answer nothing.
@@ -92,6 +94,15 @@ fn write_words(line: &mut [u8], at: usize, words: &[u32]) -> usize
     next
 }
 
+// Ends a line with the words of a buffer, and writes it.
+fn write_buffer(line: &mut [u8], at: usize, words: &[u32])
+    requires { ⌜ at ≤ length (now line) ⌝ }
+{
+    let bar = text::put_bytes(line, at, b" |");
+    let end = write_words(line, bar, words);
+    write_line(line, end);
+}
+
 // Reads a table and puts what comes of it.
 fn put_reading(line: &mut [u8], words: &[u32]) -> usize
     ensures { λ r. ⌜ r ≤ length (now (line .exit)) ⌝ }
@@ -120,7 +131,7 @@ fn put_lookup(line: &mut [u8], words: &[u32], word: u32) -> usize
     ensures { λ r. ⌜ r ≤ length (now (line .exit)) ⌝ }
 {
     match selection::lookup(words, word) {
-        Selected::Entry(entry) => put_entry(line, 2, entry),
+        Selected::Entry(entry) => put_result(line, 2, entry),
         Selected::Nothing => put_nothing(line, 2),
         Selected::Ambiguous(w) => put_head(line, 2, 6, 0, w),
         Selected::TooWide => put_head(line, 2, 7, 0, 0),
@@ -135,20 +146,6 @@ fn answer_lookup(words: &[u32], word: u32) {
     write_line(&mut line, end);
 }
 
-// Decodes a word into a buffer and puts what comes of it, but for the buffer.
-fn put_decoding(line: &mut [u8], words: &[u32], word: u32, out: &mut [u32]) -> usize
-    ensures { λ r. ⌜ r ≤ length (now (line .exit)) ⌝ }
-{
-    match operands::decode(words, word, out) {
-        Decoding::Entry(entry, _) => put_entry(line, 5, entry),
-        Decoding::Nothing => put_nothing(line, 5),
-        Decoding::Ambiguous(w) => put_head(line, 5, 6, 0, w),
-        Decoding::TooWide => put_head(line, 5, 7, 0, 0),
-        Decoding::NoRoom => put_head(line, 5, 10, 0, 0),
-        Decoding::Refused(number, place) => put_head(line, 5, number, place, 0),
-    }
-}
-
 // Copies words to the beginning of a longer run.
 fn copy(from: &[u32], out: &mut [u32])
     requires { ⌜ length (now from) ≤ length (now out) ⌝ }
@@ -161,7 +158,54 @@ fn copy(from: &[u32], out: &mut [u32])
     }
 }
 
-// Request 5. The buffer is copied, since the words that it came with are lent at the same time.
+// Generates a tree into a buffer and puts what comes of it, but for the buffer.
+fn put_generating(line: &mut [u8], words: &[u32], out: &mut [u32]) -> usize
+    ensures { λ r. ⌜ r ≤ length (now (line .exit)) ⌝ }
+{
+    match tree::generate(words, out) {
+        Generated::Words(count) => put_result(line, 3, count),
+        Generated::NoFit => put_head(line, 3, 5, 0, 0),
+        Generated::Ambiguous(w) => put_head(line, 3, 6, 0, w),
+        Generated::Refused(number, place) => put_head(line, 3, number, place, 0),
+    }
+}
+
+// Request 3. The buffer is copied, since the words that it came with are lent at the same time.
+fn answer_generate(words: &[u32], given: &[u32], room: &mut [u32])
+    requires { ⌜ length (now given) ≤ length (now room) ⌝ }
+{
+    let n = given.len();
+    copy(given, room);
+    let mut line = io::buffer();
+    let head = put_generating(&mut line, words, &mut room[..n]);
+    write_buffer(&mut line, head, &room[..n]);
+}
+
+// Request 4.
+fn answer_simulate(tree: &[u8], word: u32) {
+    let mut line = [0u8; 64];
+    let head = put_head(&mut line, 4, 0, 0, 0);
+    let result = kilnumber::kilnumber_walk(tree, word);
+    let next = put_word(&mut line, head, (result >> 32) as u32);
+    let end = text::put_hex(&mut line, next, (result % 4294967296) as u32);
+    write_line(&mut line, end);
+}
+
+// Decodes a word into a buffer and puts what comes of it, but for the buffer.
+fn put_decoding(line: &mut [u8], words: &[u32], word: u32, out: &mut [u32]) -> usize
+    ensures { λ r. ⌜ r ≤ length (now (line .exit)) ⌝ }
+{
+    match operands::decode(words, word, out) {
+        Decoding::Entry(entry, _) => put_result(line, 5, entry),
+        Decoding::Nothing => put_nothing(line, 5),
+        Decoding::Ambiguous(w) => put_head(line, 5, 6, 0, w),
+        Decoding::TooWide => put_head(line, 5, 7, 0, 0),
+        Decoding::NoRoom => put_head(line, 5, 10, 0, 0),
+        Decoding::Refused(number, place) => put_head(line, 5, number, place, 0),
+    }
+}
+
+// Request 5, with a copy of the buffer as for request 3.
 fn answer_decode(words: &[u32], word: u32, given: &[u32], room: &mut [u32])
     requires { ⌜ length (now given) ≤ length (now room) ⌝ }
 {
@@ -169,9 +213,7 @@ fn answer_decode(words: &[u32], word: u32, given: &[u32], room: &mut [u32])
     copy(given, room);
     let mut line = io::buffer();
     let head = put_decoding(&mut line, words, word, &mut room[..n]);
-    let bar = text::put_bytes(&mut line, head, b" |");
-    let end = write_words(&mut line, bar, &room[..n]);
-    write_line(&mut line, end);
+    write_buffer(&mut line, head, &room[..n]);
 }
 
 // Encodes values and puts what comes of it.
@@ -197,6 +239,32 @@ fn answer_encode(words: &[u32], entry: u32, values: &[u32]) {
     write_line(&mut line, end);
 }
 
+// Walks a tree and puts what comes of it.
+fn put_walk(line: &mut [u8], tree: &[u32], word: u32) -> usize
+    ensures { λ r. ⌜ r ≤ length (now (line .exit)) ⌝ }
+{
+    match walker::walk(tree, word) {
+        Walked::Entry(entry, count) => {
+            let next = put_result(line, 10, entry);
+            put_number(line, next, count)
+        }
+        Walked::Nothing(count) => {
+            let next = put_nothing(line, 10);
+            put_number(line, next, count)
+        }
+        Walked::BadTree => put_head(line, 10, 8, 0, 0),
+        Walked::TooWide => put_head(line, 10, 7, 0, 0),
+        Walked::Damaged(index) => put_head(line, 10, 9, index, 0),
+    }
+}
+
+// Request 10.
+fn answer_walk(tree: &[u32], word: u32) {
+    let mut line = [0u8; 64];
+    let end = put_walk(&mut line, tree, word);
+    write_line(&mut line, end);
+}
+
 // The line of a request that stops the program.
 fn answer_stopped(at: u32) {
     let mut line = [0u8; 64];
@@ -215,10 +283,20 @@ fn words_in(ws: &[u32], part: Part) -> &[u32]
     &ws[first..after]
 }
 
+// The bytes of a part that counts bytes.
+fn bytes_in(bytes: &[u8], part: Part) -> &[u8]
+    requires { ⌜ (part .first ≤ part .after) × (part .after ≤ length (now bytes)) ⌝ }
+{
+    let first = part.first;
+    let after = part.after;
+    &bytes[first..after]
+}
+
 // Answers the request at an index, and gives the index to go on at: the next request's, or the end
-// where this one stops the program. The room takes a copy of any part of the words.
-fn answer(ws: &[u32], at: usize, end: usize, room: &mut [u32]) -> usize
-    requires { ⌜ (at < end) × (end < 2 ^ 32) × (length (now ws) ≤ length (now room)) ⌝ }
+// where this one stops the program. The words are those of the bytes, and the room takes a copy of
+// any part of them.
+fn answer(bytes: &[u8], ws: &[u32], at: usize, end: usize, room: &mut [u32]) -> usize
+    requires { ⌜ (at < end) × (end < 2 ^ 32) × (length (now ws) ≤ length (now room)) × (length (now ws) * 4 ≤ length (now bytes)) ⌝ }
     ensures { λ r. ⌜ at < r ⌝ }
 {
     match input::request_at(ws, at) {
@@ -230,6 +308,14 @@ fn answer(ws: &[u32], at: usize, end: usize, room: &mut [u32]) -> usize
             answer_lookup(words_in(ws, table), word);
             table.after + 1
         }
+        Request::Generate(table, buffer) => {
+            answer_generate(words_in(ws, table), words_in(ws, buffer), room);
+            buffer.after
+        }
+        Request::Simulate(tree, word, next) => {
+            answer_simulate(bytes_in(bytes, tree), word);
+            next
+        }
         Request::Decode(table, word, buffer) => {
             answer_decode(words_in(ws, table), word, words_in(ws, buffer), room);
             buffer.after
@@ -237,6 +323,10 @@ fn answer(ws: &[u32], at: usize, end: usize, room: &mut [u32]) -> usize
         Request::Encode(table, entry, values) => {
             answer_encode(words_in(ws, table), entry, words_in(ws, values));
             values.after
+        }
+        Request::Walk(tree, word) => {
+            answer_walk(words_in(ws, tree), word);
+            tree.after + 1
         }
         Request::Stopped => {
             answer_stopped(at as u32);
@@ -246,12 +336,12 @@ fn answer(ws: &[u32], at: usize, end: usize, room: &mut [u32]) -> usize
 }
 
 // Answers every request that begins before the end.
-fn answer_all(ws: &[u32], end: usize, room: &mut [u32])
-    requires { ⌜ (end < 2 ^ 32) × (length (now ws) ≤ length (now room)) ⌝ }
+fn answer_all(bytes: &[u8], ws: &[u32], end: usize, room: &mut [u32])
+    requires { ⌜ (end < 2 ^ 32) × (length (now ws) ≤ length (now room)) × (length (now ws) * 4 ≤ length (now bytes)) ⌝ }
 {
     let mut at = 0;
     while at < end {
-        at = answer(ws, at, end, room);
+        at = answer(bytes, ws, at, end, room);
     }
 }
 
@@ -267,5 +357,5 @@ fn main() {
     let mut room = [0u32; MOST_WORDS];
     let whole = input::words_of(&bytes[..got], &mut space);
     // bytes that make no whole word count as one more, with which no request is whole
-    answer_all(&space[..whole], (got + 3) / 4, &mut room);
+    answer_all(&bytes[..got], &space[..whole], (got + 3) / 4, &mut room);
 }

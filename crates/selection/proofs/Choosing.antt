@@ -1,24 +1,21 @@
 -- The choice among entries by place: who gives way, who beats, who leads. Assumes nothing.
-use mathlib.Core.Path.{_≡_, refl, sym, ap, _∙_}
+use mathlib.Core.Path.{_≡_, refl, sym, _∙_}
 use mathlib.Core.List.{List}
 use mathlib.Core.Bool.{Bool, true, false, not}
 use Prim.Native.Nat.{ℕ, _+_, _≤_, _<_}
-use native.Mathlib.Nat.{eq-or-lt-of-le}
-use mathlib.Core.Logic.{⊎-elim}
 use native.Mathlib.Omega.{arith}
-use lib.Bits.{bitAnd, and-comm}
-use lib.Dec.{eqb}
+use lib.Bits.{bitAnd}
 use lib.ListN.{length, getD, set}
 use lib.Seq.{getD-set-same, getD-set-other}
 use borrow.Author.Count.{below-more}
-use borrow.Author.Tests.{eqb-true, eqb-false, eq-eqb, ne-eqb}
-use Rattle.words.specs.Tests.{_and_, _or_, every}
-use Rattle.words.specs.Words.{word, includes}
-use Rattle.words.proofs.Logic.{cases, clash, isFalse, and-l, and-r, not-t, or-e, every-at, every-make, every-not}
-use Rattle.words.proofs.Bits.{includes-true}
-use Rattle.table.specs.Table.{Entry, entryAt}
+use borrow.Author.Tests.{eq-eqb, ne-eqb}
+use Rattle.words.specs.Tests.{_and_, _or_}
+use Rattle.words.specs.Words.{includes}
+use Rattle.words.proofs.Logic.{clash, and-l, and-r, every-at}
+use Rattle.table.specs.Table.{Entry}
 use Rattle.selection.specs.Selection.{matches, moreSpecific}
-use Rattle.selection.specs.Places.{placed, FirstLive, givesWay, givesWayAt, beatsAt, winsAt, Leads}
+use Rattle.selection.specs.Places.{placed, FirstLive, givesWay, beatsAt, winsAt, Leads}
+use Rattle.selection.proofs.Judging.{not-mutual}
 
 -- ---- more specific
 
@@ -37,15 +34,6 @@ module _ (e f : Entry) (m o : ℕ) (p : m ≡ e .opcode .mask) (q : o ≡ f .opc
   by-value h t r v u x =
       let k : bitAnd (e .opcode .mask) (f .opcode .mask) ≡ f .opcode .mask = rw (p, q) at h in
       rw (eq-eqb _ _ k, ne-eqb (e .opcode .mask) (f .opcode .mask) (λ y. t (p ∙ y ∙ sym q)), ← x) u
-
--- two entries are not each more specific than the other
-pub not-mutual : (e f : Entry) → moreSpecific e f ≡ true → moreSpecific f e ≡ true → ⊥
-unfolding moreSpecific
-not-mutual e f h k =
-    let a : bitAnd (e .opcode .mask) (f .opcode .mask) ≡ f .opcode .mask = includes-true _ _ (and-l _ (and-l _ h)) in
-    let b : bitAnd (f .opcode .mask) (e .opcode .mask) ≡ e .opcode .mask = includes-true _ _ (and-l _ (and-l _ k)) in
-    let c : eqb (e .opcode .mask) (f .opcode .mask) ≡ false = not-t (and-r _ (and-l _ h)) in
-    eqb-false _ _ c (sym b ∙ and-comm (f .opcode .mask) (e .opcode .mask) ∙ a)
 
 -- ---- giving way
 

@@ -1,20 +1,19 @@
 -- What selection says, as a formula: an entry is selected exactly when it claims the word and is more specific than every other entry that
 -- claims it; nothing exactly when no entry claims; ambiguous exactly when some entry claims and none is selected. Assumes nothing.
-use mathlib.Core.Path.{_≡_, refl, sym, ap, _∙_}
+use mathlib.Core.Path.{_≡_, sym}
 use mathlib.Core.Logic.{_↔_}
 use mathlib.Core.List.{List}
-use mathlib.Core.Bool.{Bool, true, false, not}
-use mathlib.Core.Option.{Option, none, some}
+use mathlib.Core.Bool.{Bool, true, false}
+use mathlib.Core.Option.{none, some}
 use Prim.Native.Nat.{ℕ, _<_}
-use native.Mathlib.Omega.{arith}
 use lib.Dec.{eqb}
 use lib.ListN.{length}
-use borrow.Author.Tests.{eqb-true, eqb-false, eq-eqb, ne-eqb}
-use Rattle.words.specs.Tests.{_and_, _or_, every, exists, first}
-use Rattle.words.proofs.Logic.{cases, clash, isFalse, and-l, and-r, and-i, or-i, or-il, or-ir, or-e, not-it, not-if, every-at, every-make, exists-at, exists-make, exists-none, exists-no, options, first-some, first-none, first-only, first-no}
+use borrow.Author.Tests.{eqb-true, eqb-false, ne-eqb}
+use Rattle.words.specs.Tests.{_and_, every, exists, first}
+use Rattle.words.proofs.Logic.{cases, clash, isFalse, and-l, and-r, and-i, or-i, or-il, or-ir, or-e, not-it, not-if, every-at, every-make, exists-at, exists-make, exists-none, exists-no, first-some, first-none, first-only, first-no}
 use Rattle.table.specs.Table.{Entry, entryNumber}
-use Rattle.selection.specs.Selection.{Choice, names, nothing, ambiguous, choiceOf, claims, moreSpecific, beats, judge, select}
-use Rattle.selection.proofs.Choosing.{not-mutual}
+use Rattle.selection.specs.Selection.{names, nothing, ambiguous, claims, moreSpecific, beats, judge, select}
+use Rattle.selection.proofs.Judging.{not-mutual, choice-names, choice-nothing, choice-ambiguous}
 
 -- entry i claims the word, and is more specific than every other entry that claims it
 pub record Selects (es : List Entry) (w i : ℕ) : Type 0 where
@@ -28,22 +27,6 @@ Claimed es w = (j : ℕ) × (j < length es) × (claims w (entryNumber es j) ≡ 
 
 abbrev pub Unclaimed : List Entry → ℕ → Type 0
 Unclaimed es w = (j : ℕ) → j < length es → claims w (entryNumber es j) ≡ false
-
--- ---- what a choice tells of its two parts
-choice-names : (o : Option ℕ) (b : Bool) (i : ℕ) → choiceOf o b ≡ names i → o ≡ some i
-choice-names (some j) b i e = cc
-choice-names none true i e = cc
-choice-names none false i e = cc
-
-choice-nothing : (o : Option ℕ) (b : Bool) → choiceOf o b ≡ nothing → b ≡ false
-choice-nothing (some j) b e = absurd (let z : _≡_ {A = ℕ} 0 1 = cc in omega arith)
-choice-nothing none true e = absurd (let z : _≡_ {A = ℕ} 0 1 = cc in omega arith)
-choice-nothing none false e = refl
-
-choice-ambiguous : (o : Option ℕ) (b : Bool) → choiceOf o b ≡ ambiguous → (o ≡ none) × (b ≡ true)
-choice-ambiguous (some j) b e = absurd (let z : _≡_ {A = ℕ} 0 1 = cc in omega arith)
-choice-ambiguous none true e = (refl, refl)
-choice-ambiguous none false e = absurd (let z : _≡_ {A = ℕ} 0 1 = cc in omega arith)
 
 module _ (es : List Entry) (w : ℕ) where
   abbrev wins : ℕ → Bool

@@ -1,4 +1,5 @@
 pub mod Exclusion
+pub mod Judging
 pub mod Choosing
 pub mod Finding
 pub mod Formula

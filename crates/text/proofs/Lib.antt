@@ -1,3 +1,4 @@
 pub mod Spelling
 pub mod Putting
+pub mod Lining
 pub mod Examples

@@ -7,6 +7,7 @@ ghost use Prim.Native.Nat.{_+_, _%_, _≤_};
 ghost use lib.ListN.{length, drop};
 ghost use lib.Seq.{paste};
 ghost use Rattle.text.specs.Digits.{digitOf, decimalText, hexText};
+ghost use Rattle.text.specs.Lines.{treeLine, refusalLine};
 ghost use Rattle.text.specs.Buffer.{Puts};
 
 // Copies bytes that fit to a buffer, from an index on.
@@ -91,4 +92,39 @@ pub fn put_hex(out: &mut [u8], at: usize, w: u32) -> usize
         digit(w),
     ];
     put_bytes(out, at, &digits)
+}
+
+// The longest line of a tree: ten digits, a space, eight digits and the line's end.
+const TREE_LINE: usize = 20;
+
+// A word of a tree: its index, a space, the word, and the line's end. The line is made apart, so
+// that all of it is written or nothing.
+pub fn put_tree_line(out: &mut [u8], at: usize, index: u32, word: u32) -> usize
+    ensures { λ r. ⌜ Puts (now (out .entry)) at (treeLine index word) (now (out .exit)) r ⌝ }
+{
+    let mut line = [0u8; TREE_LINE];
+    let first = put_decimal(&mut line, 0, index);
+    let second = put_byte(&mut line, first, b' ');
+    let third = put_hex(&mut line, second, word);
+    let end = put_byte(&mut line, third, b'\n');
+    put_bytes(out, at, &line[..end])
+}
+
+// The longest line of a refusal: eight bytes, two numbers of ten digits with a space after each,
+// eight digits and the line's end.
+const REFUSAL_LINE: usize = 39;
+
+// A refusal: its number, place and word, and the line's end, made apart as a tree's line is.
+pub fn put_refusal(out: &mut [u8], at: usize, number: u32, place: u32, word: u32) -> usize
+    ensures { λ r. ⌜ Puts (now (out .entry)) at (refusalLine number place word) (now (out .exit)) r ⌝ }
+{
+    let mut line = [0u8; REFUSAL_LINE];
+    let first = put_bytes(&mut line, 0, b"refused ");
+    let second = put_decimal(&mut line, first, number);
+    let third = put_byte(&mut line, second, b' ');
+    let fourth = put_decimal(&mut line, third, place);
+    let fifth = put_byte(&mut line, fourth, b' ');
+    let sixth = put_hex(&mut line, fifth, word);
+    let end = put_byte(&mut line, sixth, b'\n');
+    put_bytes(out, at, &line[..end])
 }

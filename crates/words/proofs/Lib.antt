@@ -2,3 +2,4 @@ pub mod Logic
 pub mod Lists
 pub mod Bits
 pub mod Parts
+pub mod Bytes

@@ -2,13 +2,13 @@
 use mathlib.Core.Path.{_≡_, refl, sym, ap, _∙_}
 use mathlib.Core.Bool.{true}
 use Prim.Native.Nat.{ℕ, zero, _+_, _-_, _*_, _/_, _%_, _^_, _≤_, _<_}
-use native.Mathlib.Nat.{one-mul, add-mul, mul-assoc, mul-right-comm, mod-lt, mod-eq-of-lt, div-eq-of-lt, zero-mod, mul-mod-left, mul-add-mod-self-right, le-trans}
+use native.Mathlib.Nat.{one-mul, add-mul, mul-assoc, mul-right-comm, mod-lt, mod-eq-of-lt, div-eq-of-lt, zero-mod, pow-zero, div-one, mul-mod-left, mul-add-mod-self-right, le-trans}
 use native.Mathlib.Omega.{arith}
 use lib.Bits.{bitAnd, and-mask}
-use lib.Dec.{lit<, ltb}
+use lib.Dec.{lit<, eqb, ltb}
 use lib.Pow.{shl-exact, shl-lt, pow-add, pow-mono, pow-pos, shr-le, ones-lt, ones-split}
 use borrow.Author.Tests.{lt-ltb}
-use Rattle.words.specs.Words.{part, run}
+use Rattle.words.specs.Words.{bit, part, run}
 
 -- `1 << n` at 32 bits
 pub one-shl : (n : ℕ) → n < 32 → (1 * 2 ^ n) % 2 ^ 32 ≡ 2 ^ n
@@ -32,6 +32,19 @@ part-all w low width h l =
 pub part-some : (w low width : ℕ) → width < 32 → bitAnd (w / 2 ^ low) ((1 * 2 ^ width) % 2 ^ 32 - 1) ≡ part w low width
 unfolding part
 part-some w low width h = ap (λ (x : ℕ). bitAnd (w / 2 ^ low) (x - 1)) (one-shl width h) ∙ and-mask (w / 2 ^ low) width
+
+-- the same by shift and mask, where the width is a literal: `(w >> low) & 127`, `w & 65535`, `w >> 28`
+pub part-mask : (w low k : ℕ) → bitAnd (w / 2 ^ low) (2 ^ k - 1) ≡ part w low k
+unfolding part
+part-mask w low k = and-mask (w / 2 ^ low) k
+
+pub part-low : (w k : ℕ) → bitAnd w (2 ^ k - 1) ≡ part w 0 k
+unfolding part
+part-low w k = rw (pow-zero, div-one) (and-mask w k)
+
+pub part-top : (w : ℕ) → w < 2 ^ 32 → w / 2 ^ 28 ≡ part w 28 4
+unfolding part
+part-top w h = sym (mod-eq-of-lt (omega arith))
 
 -- a part is below the power of its width
 pub part-lt : (w low width : ℕ) → part w low width < 2 ^ width
@@ -90,3 +103,8 @@ fits-all w width h l = sym (lt-ltb w (2 ^ width) (le-trans h (pow-mono l)))
 
 pub fits-some : (w width : ℕ) → width < 32 → ltb w ((1 * 2 ^ width) % 2 ^ 32) ≡ ltb w (2 ^ width)
 fits-some w width h = ap (ltb w) (one-shl width h)
+
+-- (w >> i) & 1 == 1
+pub bit-shr : (w i : ℕ) → eqb (bitAnd (w / 2 ^ i) 1) 1 ≡ bit w i
+unfolding bit
+bit-shr w i = ap (λ (x : ℕ). eqb x 1) (and-mask (w / 2 ^ i) 1)

@@ -1,8 +1,10 @@
 // Leaves on 32-bit words, total, for every other crate.
 ghost use mathlib.Core.Path.{_≡_};
-ghost use Prim.Native.Nat.{ℕ, _%_, _^_};
+ghost use Prim.Native.Nat.{ℕ, _+_, _*_, _%_, _^_, _≤_};
 ghost use lib.Dec.{ltb};
+ghost use lib.ListN.{length};
 ghost use Rattle.words.specs.Words.{word, part as partOf, run as runOf};
+ghost use Rattle.words.specs.Bytes.{wordOf, wordsOf};
 
 // The word at an index; 0 past the end.
 pub fn word_at(ws: &[u32], i: usize) -> u32
@@ -45,4 +47,31 @@ pub fn fits(w: u32, width: u32) -> bool
         return true;
     }
     w < (1 << width)
+}
+
+// The word of four bytes, low byte first.
+fn word_of(a: u8, b: u8, c: u8, d: u8) -> u32
+    ensures { λ r. ⌜ r ≡ wordOf a b c d ⌝ }
+{
+    (((a as u32) | ((b as u32) << 8)) | ((c as u32) << 16)) | ((d as u32) << 24)
+}
+
+// Word i of the bytes, which have it whole.
+fn whole_word(bytes: &[u8], i: usize) -> u32
+    requires { ⌜ i * 4 + 4 ≤ length (now bytes) ⌝ }
+    ensures { λ r. ⌜ r ≡ word (wordsOf (now (bytes .entry))) i ⌝ }
+{
+    let k = i * 4;
+    word_of(bytes[k], bytes[k + 1], bytes[k + 2], bytes[k + 3])
+}
+
+// Word i of the bytes; 0 past the last whole one.
+pub fn word_in(bytes: &[u8], i: usize) -> u32
+    ensures { λ r. ⌜ r ≡ word (wordsOf (now (bytes .entry))) i ⌝ }
+{
+    if i < bytes.len() / 4 {
+        whole_word(bytes, i)
+    } else {
+        0
+    }
 }

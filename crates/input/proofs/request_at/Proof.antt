@@ -1,8 +1,8 @@
 -- `input::request_at` meets its contract. Assumes nothing.
+use Rattle.input.proofs.Asking.{request-past, request-known, request-unknown}
+use Rattle.input.specs.Requests.{requestOf}
 use mathlib.Core.Path.{_∙_}
 use borrow.Author.Needs.{needs}
-use Rattle.input.specs.Requests.{requestOf}
-use Rattle.input.proofs.Asking.{request-past, request-known, request-unknown}
 use Rattle.input.proofs.request_at.Statement.{statement}
 use Rattle.input.proofs.request_at.Tie as tie
 
@@ -24,11 +24,20 @@ read-at-requires c κs = search needs
 lookup-at-requires : tie.Need-lookup-at-requires
 lookup-at-requires c κs = search needs
 
+generate-at-requires : tie.Need-generate-at-requires
+generate-at-requires c κs = search needs
+
+simulate-at-requires : tie.Need-simulate-at-requires
+simulate-at-requires c κs = search needs
+
 decode-at-requires : tie.Need-decode-at-requires
 decode-at-requires c κs = search needs
 
 encode-at-requires : tie.Need-encode-at-requires
 encode-at-requires c κs = search needs
+
+walk-at-requires : tie.Need-walk-at-requires
+walk-at-requires c κs = search needs
 
 returns-2 : tie.Need-returns-2
 unfolding requestOf
@@ -40,14 +49,26 @@ returns-3 c = c .lookup-at .ensures ∙ request-known _ _ (c .before .match .key
 
 returns-4 : tie.Need-returns-4
 unfolding requestOf
-returns-4 c = c .decode-at .ensures ∙ request-known _ _ (c .before .match .keys3)
+returns-4 c = c .generate-at .ensures ∙ request-known _ _ (c .before .match .keys3)
 
 returns-5 : tie.Need-returns-5
 unfolding requestOf
-returns-5 c = c .encode-at .ensures ∙ request-known _ _ (c .before .match .keys4)
+returns-5 c = c .simulate-at .ensures ∙ request-known _ _ (c .before .match .keys4)
 
 returns-6 : tie.Need-returns-6
-returns-6 c = let r = c .match .rest in request-unknown _ _ (r .0 .0 .0 .1) (r .0 .0 .1) (r .0 .1) (r .1)
+unfolding requestOf
+returns-6 c = c .decode-at .ensures ∙ request-known _ _ (c .before .match .keys5)
+
+returns-7 : tie.Need-returns-7
+unfolding requestOf
+returns-7 c = c .encode-at .ensures ∙ request-known _ _ (c .before .match .keys6)
+
+returns-8 : tie.Need-returns-8
+unfolding requestOf
+returns-8 c = c .walk-at .ensures ∙ request-known _ _ (c .before .match .keys7)
+
+returns-9 : tie.Need-returns-9
+returns-9 c = let r = c .match .rest in request-unknown _ _ (r .0 .0 .0 .0 .0 .0 .1) (r .0 .0 .0 .0 .0 .1) (r .0 .0 .0 .0 .1) (r .0 .0 .0 .1) (r .0 .0 .1) (r .0 .1) (r .1)
 
 pub request-at-spec : {M : Type 1} → statement M
 request-at-spec =
@@ -59,10 +80,16 @@ request-at-spec =
     add-next
     read-at-requires
     lookup-at-requires
+    generate-at-requires
+    simulate-at-requires
     decode-at-requires
     encode-at-requires
+    walk-at-requires
     returns-2
     returns-3
     returns-4
     returns-5
-    returns-6)
+    returns-6
+    returns-7
+    returns-8
+    returns-9)

@@ -5,8 +5,9 @@ use mathlib.Core.Path.{_≡_, refl}
 use native.Mathlib.Omega.{arith}
 use lib.ListN.{length, length-set, take, drop}
 use borrow.Author.Needs.{needs}
-use Rattle.input.specs.Bytes.{wordsOf}
-use Rattle.input.proofs.Words.{words-length, filled-on, filled-all}
+use Rattle.words.specs.Bytes.{wordsOf}
+use Rattle.words.proofs.Bytes.{words-length}
+use Rattle.input.proofs.Words.{filled-on, filled-all}
 use Rattle.input.proofs.words_of.Statement.{statement}
 use Rattle.input.proofs.words_of.Tie as tie
 
@@ -22,8 +23,8 @@ least-requires c κs = search needs
 loop-holds : tie.Need-loop-holds Inv-loop μ-loop
 loop-holds c = (omega arith, omega arith, omega arith, refl, refl)
 
-word-at-requires : tie.Need-word-at-requires Inv-loop μ-loop
-word-at-requires c κs = search needs
+word-in-requires : tie.Need-word-in-requires Inv-loop μ-loop
+word-in-requires c κs = search needs
 
 mul-out : tie.Need-mul-out Inv-loop μ-loop
 mul-out c = search needs
@@ -45,7 +46,7 @@ loop-again c = let l = c .before .before .loop in
       omega arith,
       omega arith,
       simp length-set (l .inv .3),
-      rw (c .word-at .ensures) (filled-on (wordsOf (a .bytes .now)) (a .out .now) (l .out) (l .i) (l .inv .4) (omega arith) (omega arith)),
+      rw (c .word-in .ensures) (filled-on (wordsOf (a .bytes .now)) (a .out .now) (l .out) (l .i) (l .inv .4) (omega arith) (omega arith)),
     )
 
 same-length : tie.Need-same-length Inv-loop μ-loop
@@ -64,7 +65,7 @@ words-of-spec =
     μ-loop
     least-requires
     loop-holds
-    word-at-requires
+    word-in-requires
     mul-out
     slice-write-out
     add-i

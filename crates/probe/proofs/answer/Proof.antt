@@ -1,8 +1,8 @@
 -- `probe::answer` meets its contract. Assumes nothing.
-use mathlib.Core.Path.{sym, _∙_}
+use Rattle.input.proofs.Asking.{read-within, lookup-within, generate-within, simulate-within, decode-within, encode-within, walk-within}
 use native.Mathlib.Omega.{arith}
+use mathlib.Core.Path.{sym, _∙_}
 use borrow.Author.Needs.{needs}
-use Rattle.input.proofs.Asking.{read-within, lookup-within, decode-within, encode-within}
 use Rattle.probe.proofs.answer.Statement.{statement}
 use Rattle.probe.proofs.answer.Tie as tie
 
@@ -34,25 +34,58 @@ enum-known-table-3 : tie.Need-enum-known-table-3
 enum-known-table-3 c = search needs
 
 words-in-requires-3 : tie.Need-words-in-requires-3
-words-in-requires-3 c κs = let l = decode-within _ _ (sym (c .before .before .before .request-at .ensures) ∙ c .before .table3 .given .1) .0 in (l .order, l .inside)
+words-in-requires-3 c κs = let l = generate-within _ _ (sym (c .before .before .before .request-at .ensures) ∙ c .before .table3 .given .1) .0 in (l .order, l .inside)
 
 words-in-requires-4 : tie.Need-words-in-requires-4
-words-in-requires-4 c κs = let l = decode-within _ _ (sym (c .before .before .before .before .request-at .ensures) ∙ c .before .before .table3 .given .1) .1 in (l .order, l .inside)
+words-in-requires-4 c κs = let l = generate-within _ _ (sym (c .before .before .before .before .request-at .ensures) ∙ c .before .before .table3 .given .1) .1 in (l .order, l .inside)
 
-answer-decode-requires : tie.Need-answer-decode-requires
-answer-decode-requires c κs = search needs
+answer-generate-requires : tie.Need-answer-generate-requires
+answer-generate-requires c κs = search needs
+
+enum-known-tree : tie.Need-enum-known-tree
+enum-known-tree c = search needs
+
+bytes-in-requires : tie.Need-bytes-in-requires
+bytes-in-requires c κs = let l = simulate-within _ _ (sym (c .before .before .before .request-at .ensures) ∙ c .before .tree .given .1) in (l .order, omega arith)
+
+answer-simulate-requires : tie.Need-answer-simulate-requires
+answer-simulate-requires c κs = search needs
 
 enum-known-table-4 : tie.Need-enum-known-table-4
 enum-known-table-4 c = search needs
 
 words-in-requires-5 : tie.Need-words-in-requires-5
-words-in-requires-5 c κs = let l = encode-within _ _ (sym (c .before .before .before .request-at .ensures) ∙ c .before .table4 .given .1) .0 in (l .order, l .inside)
+words-in-requires-5 c κs = let l = decode-within _ _ (sym (c .before .before .before .request-at .ensures) ∙ c .before .table4 .given .1) .0 in (l .order, l .inside)
 
 words-in-requires-6 : tie.Need-words-in-requires-6
-words-in-requires-6 c κs = let l = encode-within _ _ (sym (c .before .before .before .before .request-at .ensures) ∙ c .before .before .table4 .given .1) .1 in (l .order, l .inside)
+words-in-requires-6 c κs = let l = decode-within _ _ (sym (c .before .before .before .before .request-at .ensures) ∙ c .before .before .table4 .given .1) .1 in (l .order, l .inside)
+
+answer-decode-requires : tie.Need-answer-decode-requires
+answer-decode-requires c κs = search needs
+
+enum-known-table-5 : tie.Need-enum-known-table-5
+enum-known-table-5 c = search needs
+
+words-in-requires-7 : tie.Need-words-in-requires-7
+words-in-requires-7 c κs = let l = encode-within _ _ (sym (c .before .before .before .request-at .ensures) ∙ c .before .table5 .given .1) .0 in (l .order, l .inside)
+
+words-in-requires-8 : tie.Need-words-in-requires-8
+words-in-requires-8 c κs = let l = encode-within _ _ (sym (c .before .before .before .before .request-at .ensures) ∙ c .before .before .table5 .given .1) .1 in (l .order, l .inside)
 
 answer-encode-requires : tie.Need-answer-encode-requires
 answer-encode-requires c κs = search needs
+
+enum-known-tree-2 : tie.Need-enum-known-tree-2
+enum-known-tree-2 c = search needs
+
+words-in-requires-9 : tie.Need-words-in-requires-9
+words-in-requires-9 c κs = let l = walk-within _ _ (sym (c .before .before .before .request-at .ensures) ∙ c .before .tree2 .given .1) .0 in (l .order, l .inside)
+
+answer-walk-requires : tie.Need-answer-walk-requires
+answer-walk-requires c κs = search needs
+
+add-result-2 : tie.Need-add-result-2
+add-result-2 c = let l = walk-within _ _ (sym (c .before .before .before .before .before .before .request-at .ensures) ∙ c .before .before .before .before .tree2 .given .1) in omega arith
 
 enum-told : tie.Need-enum-told
 enum-told c = search needs
@@ -73,13 +106,25 @@ same-length : tie.Need-same-length
 same-length c = search needs
 
 returns-3 : tie.Need-returns-3
-returns-3 c = let l = decode-within _ _ (sym (c .before .before .before .before .before .before .before .before .before .request-at .ensures) ∙ c .before .before .before .before .before .before .before .table3 .given .1) in omega arith
+returns-3 c = let l = generate-within _ _ (sym (c .before .before .before .before .before .before .before .before .before .request-at .ensures) ∙ c .before .before .before .before .before .before .before .table3 .given .1) in omega arith
 
 returns-4 : tie.Need-returns-4
-returns-4 c = let l = encode-within _ _ (sym (c .before .before .before .before .before .before .request-at .ensures) ∙ c .before .before .before .before .table4 .given .1) in omega arith
+returns-4 c = let l = simulate-within _ _ (sym (c .before .before .before .before .before .request-at .ensures) ∙ c .before .before .before .tree .given .1) in omega arith
+
+same-length-2 : tie.Need-same-length-2
+same-length-2 c = search needs
 
 returns-5 : tie.Need-returns-5
-returns-5 c = search needs
+returns-5 c = let l = decode-within _ _ (sym (c .before .before .before .before .before .before .before .before .before .request-at .ensures) ∙ c .before .before .before .before .before .before .before .table4 .given .1) in omega arith
+
+returns-6 : tie.Need-returns-6
+returns-6 c = let l = encode-within _ _ (sym (c .before .before .before .before .before .before .request-at .ensures) ∙ c .before .before .before .before .table5 .given .1) in omega arith
+
+returns-7 : tie.Need-returns-7
+returns-7 c = let l = walk-within _ _ (sym (c .before .before .before .before .before .before .request-at .ensures) ∙ c .before .before .before .before .tree2 .given .1) in omega arith
+
+returns-8 : tie.Need-returns-8
+returns-8 c = search needs
 
 pub answer-spec : {M : Type 1} → statement M
 answer-spec =
@@ -96,11 +141,22 @@ answer-spec =
     enum-known-table-3
     words-in-requires-3
     words-in-requires-4
-    answer-decode-requires
+    answer-generate-requires
+    enum-known-tree
+    bytes-in-requires
+    answer-simulate-requires
     enum-known-table-4
     words-in-requires-5
     words-in-requires-6
+    answer-decode-requires
+    enum-known-table-5
+    words-in-requires-7
+    words-in-requires-8
     answer-encode-requires
+    enum-known-tree-2
+    words-in-requires-9
+    answer-walk-requires
+    add-result-2
     enum-told
     cast-answer-stopped
     answer-stopped-requires
@@ -109,4 +165,8 @@ answer-spec =
     same-length
     returns-3
     returns-4
-    returns-5)
+    same-length-2
+    returns-5
+    returns-6
+    returns-7
+    returns-8)

@@ -7,10 +7,10 @@ use Rattle.probe.proofs.answer_all.Statement.{statement}
 use Rattle.probe.proofs.answer_all.Tie as tie
 
 abbrev Inv-loop : tie.InvT-loop
-Inv-loop ws end room₀ at₀ room at = length room ≡ length room₀
+Inv-loop bytes ws end room₀ at₀ room at = length room ≡ length room₀
 
 abbrev μ-loop : tie.MeasureT-loop
-μ-loop ws end room₀ at₀ room at = end - at
+μ-loop bytes ws end room₀ at₀ room at = end - at
 
 loop-holds : tie.Need-loop-holds Inv-loop μ-loop
 loop-holds c = search needs

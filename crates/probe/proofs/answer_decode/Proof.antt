@@ -1,8 +1,7 @@
 -- `probe::answer_decode` is safe and ends. Assumes nothing.
-use mathlib.Core.Path.{sym}
 use lib.Seq.{length-take-le}
+use mathlib.Core.Path.{sym}
 use borrow.Author.Needs.{needs}
-use Rattle.text.proofs.Putting.{within}
 use Rattle.probe.proofs.answer_decode.Statement.{statement}
 use Rattle.probe.proofs.answer_decode.Tie as tie
 
@@ -24,32 +23,17 @@ slice-aggregate-put-decoding-2 c = sym (length-take-le _ _ (search needs))
 put-decoding-requires : tie.Need-put-decoding-requires
 put-decoding-requires c κs = search needs
 
-slice-aggregate-put-bytes : tie.Need-slice-aggregate-put-bytes
-slice-aggregate-put-bytes c = search needs
+slice-aggregate-write-buffer : tie.Need-slice-aggregate-write-buffer
+slice-aggregate-write-buffer c = search needs
 
-slice-aggregate-put-bytes-2 : tie.Need-slice-aggregate-put-bytes-2
-slice-aggregate-put-bytes-2 c = search needs
+slice-reshare-prefix-write-buffer : tie.Need-slice-reshare-prefix-write-buffer
+slice-reshare-prefix-write-buffer c = search needs
 
-put-bytes-requires : tie.Need-put-bytes-requires
-put-bytes-requires c κs = search needs
+slice-aggregate-write-buffer-2 : tie.Need-slice-aggregate-write-buffer-2
+slice-aggregate-write-buffer-2 c = sym (length-take-le _ _ (search needs))
 
-slice-aggregate-write-words : tie.Need-slice-aggregate-write-words
-slice-aggregate-write-words c = search needs
-
-slice-reshare-prefix-write-words : tie.Need-slice-reshare-prefix-write-words
-slice-reshare-prefix-write-words c = search needs
-
-slice-aggregate-write-words-2 : tie.Need-slice-aggregate-write-words-2
-slice-aggregate-write-words-2 c = sym (length-take-le _ _ (search needs))
-
-write-words-requires : tie.Need-write-words-requires
-write-words-requires c κs = within (c .before .before .before .put-bytes .ensures) (c .before .before .before .before .before .before .before .before .before .put-decoding .ensures)
-
-slice-aggregate-write-line : tie.Need-slice-aggregate-write-line
-slice-aggregate-write-line c = search needs
-
-write-line-requires : tie.Need-write-line-requires
-write-line-requires c κs = search needs
+write-buffer-requires : tie.Need-write-buffer-requires
+write-buffer-requires c κs = search needs
 
 same-length : tie.Need-same-length
 same-length c = search needs
@@ -67,14 +51,9 @@ answer-decode-spec =
     slice-relend-prefix-put-decoding
     slice-aggregate-put-decoding-2
     put-decoding-requires
-    slice-aggregate-put-bytes
-    slice-aggregate-put-bytes-2
-    put-bytes-requires
-    slice-aggregate-write-words
-    slice-reshare-prefix-write-words
-    slice-aggregate-write-words-2
-    write-words-requires
-    slice-aggregate-write-line
-    write-line-requires
+    slice-aggregate-write-buffer
+    slice-reshare-prefix-write-buffer
+    slice-aggregate-write-buffer-2
+    write-buffer-requires
     same-length
     returns)

@@ -1,11 +1,11 @@
 -- `probe::main` is safe and ends. Assumes nothing.
-use Prim.Native.Nat.{ℕ}
-use mathlib.Core.Path.{sym}
-use native.Mathlib.Omega.{arith}
-use lib.ListN.{length-replicate}
+use Rattle.input.proofs.Words.{fills-within, fills-part, fills-bytes}
 use lib.Seq.{length-take-le}
+use lib.ListN.{length-replicate}
+use native.Mathlib.Omega.{arith}
+use mathlib.Core.Path.{sym}
+use Prim.Native.Nat.{ℕ}
 use borrow.Author.Needs.{needs}
-use Rattle.input.proofs.Words.{fills-within, fills-part}
 use Rattle.probe.proofs.main.Statement.{statement}
 use Rattle.probe.proofs.main.Tie as tie
 
@@ -33,20 +33,26 @@ slice-aggregate-words-of-2 c = sym (length-replicate {0} {A = ℕ} 262144 0)
 words-of-requires : tie.Need-words-of-requires
 words-of-requires c κs = search needs
 
-array-share-prefix-space : tie.Need-array-share-prefix-space
-array-share-prefix-space c = fills-within (c .before .words-of .ensures)
+array-share-prefix-bytes-2 : tie.Need-array-share-prefix-bytes-2
+array-share-prefix-bytes-2 c = c .before .before .before .before .before .before .read-full .ensures .0
 
 slice-aggregate-answer-all : tie.Need-slice-aggregate-answer-all
-slice-aggregate-answer-all c = sym (length-take-le _ _ (fills-within (c .before .before .words-of .ensures)))
+slice-aggregate-answer-all c = c .before .before .before .before .before .before .before .read-full .ensures .1
 
-add-answer-all : tie.Need-add-answer-all
-add-answer-all c = omega (arith, c .before .before .before .before .before .if1 .left)
+array-share-prefix-space : tie.Need-array-share-prefix-space
+array-share-prefix-space c = fills-within (c .before .before .words-of .ensures)
 
 slice-aggregate-answer-all-2 : tie.Need-slice-aggregate-answer-all-2
-slice-aggregate-answer-all-2 c = sym (length-replicate {0} {A = ℕ} 262144 0)
+slice-aggregate-answer-all-2 c = sym (length-take-le _ _ (fills-within (c .before .before .before .words-of .ensures)))
+
+add-answer-all : tie.Need-add-answer-all
+add-answer-all c = omega (arith, c .before .before .before .before .before .before .if1 .left)
+
+slice-aggregate-answer-all-3 : tie.Need-slice-aggregate-answer-all-3
+slice-aggregate-answer-all-3 c = sym (length-replicate {0} {A = ℕ} 262144 0)
 
 answer-all-requires : tie.Need-answer-all-requires
-answer-all-requires c κs = (omega (arith, c .before .before .before .before .before .before .if1 .left), fills-part (c .before .before .before .words-of .ensures))
+answer-all-requires c κs = (omega (arith, c .before .before .before .before .before .before .before .if1 .left), fills-part (c .before .before .before .before .words-of .ensures), fills-bytes (c .before .before .before .before .words-of .ensures))
 
 returns-2 : tie.Need-returns-2
 returns-2 c = search needs
@@ -63,9 +69,11 @@ main-spec =
     slice-aggregate-words-of
     slice-aggregate-words-of-2
     words-of-requires
-    array-share-prefix-space
+    array-share-prefix-bytes-2
     slice-aggregate-answer-all
-    add-answer-all
+    array-share-prefix-space
     slice-aggregate-answer-all-2
+    add-answer-all
+    slice-aggregate-answer-all-3
     answer-all-requires
     returns-2)

@@ -1,0 +1,182 @@
+-- Demand 3, over the definitions that the calls' contracts cite. Assumes nothing.
+--   `tree::generate` answers `generateOf (readTable ws) (length out)` and leaves `bufferOf (readTable ws) out` in the buffer,
+--   for all lists of words ws and out; `walker::walk` answers `walkOf words w`, and `walker::walk_bytes` the same of the words of its bytes.
+--     Right     what a walk is when it is right
+--     refused-ambiguous, ambiguous-refused, clear-generated     ambiguity, and when a tree is generated
+--     walk-right     the walks of the tree that was written
+use mathlib.Core.Path.{_≡_, refl, sym, ap, _∙_, subst}
+use mathlib.Core.Bool.{true}
+use mathlib.Core.List.{List, [], _++_, append-nil}
+use mathlib.Core.Option.{Option, none, some}
+use Prim.Native.Nat.{ℕ, _+_, _^_, _≤_, _<_}
+use native.Mathlib.Omega.{arith}
+use borrow.Author.Tests.{leb-true}
+use lib.ListN.{length, take, drop}
+use lib.Seq.{take-at}
+use Rattle.words.specs.Words.{word}
+use Rattle.words.proofs.Logic.{cases, and-r, options}
+use Rattle.table.specs.Outcome.{Outcome, result, refused}
+use Rattle.table.specs.Table.{Entry, Table, countOf, tableOf}
+use Rattle.table.specs.Check.{Check, fine, fault, firstCheck, tableCheck, reading, readTable}
+use Rattle.table.specs.Lawful.{goodTable}
+use Rattle.table.proofs.Laws.{then-l, then-r, need-true, first-count, first-width, length-entries}
+use Rattle.table.proofs.Good.{table-good}
+use Rattle.selection.specs.Selection.{ambiguous, select}
+use Rattle.tree.specs.Cell.{start}
+use Rattle.tree.specs.Tree.{Tree, tree, size, asked, distinct, conflict}
+use Rattle.tree.specs.Written.{written}
+use Rattle.tree.specs.Generate.{fits, judged, generateOf, leftBy, bufferOf}
+use Rattle.tree.specs.Walk.{arrives, named, path, walkOf}
+use Rattle.tree.proofs.Theorem.{tree-right, tree-short, tree-once, tree-conflict, tree-sound, conflict-found}
+use Rattle.tree.proofs.Writing.{length-nodes}
+use Rattle.tree.proofs.Paths.{sound-tree, path-whole, walk-written}
+
+-- a walk of these words by w is right: it names exactly the selected entry (or nothing), tests no bit twice, and counts truly
+pub record Right (es : List Entry) (width : ℕ) (words : List ℕ) (w : ℕ) : Type 0 where
+  -- the word is not ambiguous: it selects an entry or nothing
+  pub clear : select es w ≡ ambiguous → ⊥
+  -- the bits that w's path tests, in order, and what the path names; the header's number of nodes is the tree's
+  pub tests : List ℕ
+  pub walks : path (size (tree es width)) words width (size (tree es width)) w 1 ≡ arrives (named (select es w)) tests
+  -- what the walk answers
+  pub answers : walkOf words w ≡ result (record { entry = named (select es w); count = length tests })
+  pub once : distinct tests ≡ true
+  pub few : length tests ≤ width
+
+-- ---- a table that was read
+
+reading-is : (v : Check) (x t : Table) → reading v x ≡ result t → (v ≡ fine) × (x ≡ t)
+reading-is fine x t e = (refl, cc)
+reading-is (fault n p) x t e = absurd (let z : _≡_ {A = ℕ} 0 1 = cc in omega arith)
+
+-- what reading has found of it
+record Sane (t : Table) : Type 0 where
+  good : goodTable (t .width) (t .entries) ≡ true
+  wide : 1 ≤ t .width
+  narrow : t .width ≤ 32
+  short : length (t .entries) ≤ 256
+
+fine-sane : (ws : List ℕ) → tableCheck ws ≡ fine → Sane (tableOf ws)
+unfolding tableCheck firstCheck
+fine-sane ws e =
+    let first = then-l _ _ e in
+    record {
+      good = table-good ws e;
+      wide = leb-true _ _ (need-true _ _ _ (then-l _ _ (then-r _ _ (then-r _ _ (then-r _ _ (then-r _ _ (then-r _ _ first)))))));
+      narrow = first-width ws first;
+      short = omega (arith, length-entries ws (countOf (word ws 0)) 1, first-count ws first);
+    }
+
+read-sane : (ws : List ℕ) (t : Table) → readTable ws ≡ result t → Sane t
+read-sane ws t e = let r = reading-is (tableCheck ws) (tableOf ws) t e in subst Sane (r .1) (fine-sane ws (r .0))
+
+-- ---- what an answer of generating tells of the tree
+
+not-result : (m w n : ℕ) → _≡_ {A = Outcome ℕ} (refused m 0 w) (result n) → ⊥
+not-result m w n e = let z : _≡_ {A = ℕ} 0 1 = cc in omega arith
+
+not-full : (w : ℕ) → _≡_ {A = Outcome ℕ} (refused 5 0 0) (refused 6 0 w) → ⊥
+not-full w e = let z : _≡_ {A = ℕ} 5 6 = cc in omega arith
+
+module _ (t : Tree) (room : ℕ) where
+  judged-result : (o : Option ℕ) (n : ℕ) → judged t room o ≡ result n → (fits t room ≡ true) × (o ≡ none) × (size t + 1 ≡ n)
+  unfolding judged
+  judged-result none n e =
+      cases (fits t room)
+      (λ f. (f, refl, let q : result (size t + 1) ≡ result n = rw f at e in cc))
+      (λ f. absurd (not-result 5 0 n (rw f at e)))
+  judged-result (some w) n e = absurd (cases (fits t room) (λ f. not-result 6 w n (rw f at e)) (λ f. not-result 5 0 n (rw f at e)))
+
+  judged-clash : (o : Option ℕ) (w : ℕ) → judged t room o ≡ refused 6 0 w → o ≡ some w
+  unfolding judged
+  judged-clash none w e = absurd (cases (fits t room) (λ f. not-result 6 w (size t + 1) (sym (rw f at e))) (λ f. not-full w (rw f at e)))
+  judged-clash (some v) w e =
+      cases (fits t room)
+      (λ f. let q : _≡_ {A = Outcome ℕ} (refused 6 0 v) (refused 6 0 w) = rw f at e in let z : v ≡ w = cc in ap some z)
+      (λ f. absurd (not-full w (rw f at e)))
+
+-- ---- the tree of a table that reads
+
+module _ (ws out : List ℕ) (t : Table) (reads : readTable ws ≡ result t) where
+  abbrev grown : Tree
+  grown = tree (t .entries) (t .width)
+
+  abbrev flat : List ℕ
+  flat = written (t .width) grown
+
+  sane : Sane t
+  sane = read-sane ws t reads
+
+  -- the answer is what is judged of the tree
+  answered : generateOf (readTable ws) (length out) ≡ judged grown (length out) (conflict start grown)
+  unfolding generateOf
+  answered = rw reads
+
+  -- with no conflict its words walk right, whatever words follow them
+  walks-right : conflict start grown ≡ none → size grown < 65536 → (rest : List ℕ) (w : ℕ) → w < 2 ^ (t .width)
+      → Right (t .entries) (t .width) (flat ++ rest) w
+  walks-right clean small rest w h =
+      let good = sane .good in
+      let sound = sound-tree (t .entries) (t .width) good (sane .short) in
+      record {
+        clear = tree-sound (t .entries) (t .width) good clean w;
+        tests = asked grown w;
+        walks = rw (← (tree-right (t .entries) (t .width) good w)) (path-whole (t .width) grown rest w (sane .wide) (sane .narrow) small sound);
+        answers = rw (← (tree-right (t .entries) (t .width) good w)) (walk-written (t .width) grown rest w (sane .wide) (sane .narrow) small sound h);
+        once = tree-once (t .entries) (t .width) good w;
+        few = tree-short (t .entries) (t .width) good w;
+      }
+
+  module _ (n : ℕ) (generated : generateOf (readTable ws) (length out) ≡ result n) where
+    judgement : (fits grown (length out) ≡ true) × (conflict start grown ≡ none) × (size grown + 1 ≡ n)
+    judgement = judged-result grown (length out) (conflict start grown) n (sym answered ∙ generated)
+
+    -- "The tree written is as many words, from the buffer's start, as generating returns"
+    buffer-is : bufferOf (readTable ws) out ≡ flat ++ drop (length flat) out
+    unfolding bufferOf leftBy
+    buffer-is = let g : generateOf (result t) (length out) ≡ result n = rw reads at generated in rw (reads, g)
+
+    words-are : take n (bufferOf (readTable ws) out) ≡ flat ++ []
+    unfolding written
+    words-are =
+        ap (take n) buffer-is ∙ take-at flat (drop (length flat) out) n (omega (arith, length-nodes grown 1, judgement .2)) ∙ sym (append-nil flat)
+
+    written-right : (rest : List ℕ) (w : ℕ) → w < 2 ^ (t .width) → Right (t .entries) (t .width) (flat ++ rest) w
+    unfolding fits
+    written-right = walks-right (judgement .1) (omega (arith, leb-true (size grown + 1) 16384 (and-r _ (judgement .0))))
+
+-- ---- demand 3: a table that reads without fault, and a buffer
+
+module _ (ws out : List ℕ) (t : Table) (reads : readTable ws ≡ result t) where
+  -- "Generating refuses as ambiguous exactly when an ambiguous word exists, and gives such a word": the word that it gives is one;
+  pub refused-ambiguous : (w : ℕ) → generateOf (readTable ws) (length out) ≡ refused 6 0 w → (w < 2 ^ (t .width)) × (select (t .entries) w ≡ ambiguous)
+  refused-ambiguous w e =
+      let r = tree-conflict (t .entries) (t .width) (sane ws out t reads .good) w (judged-clash (tree (t .entries) (t .width)) (length out) _ w (sym (answered ws out t reads) ∙ e)) in
+      (r .1, r .0)
+
+  -- where there is one it is refused so, if the tree fits ("Fit is decided before ambiguity");
+  pub ambiguous-refused : fits (tree (t .entries) (t .width)) (length out) ≡ true → (w : ℕ) → select (t .entries) w ≡ ambiguous → w < 2 ^ (t .width)
+      → (v : ℕ) × (generateOf (readTable ws) (length out) ≡ refused 6 0 v)
+  unfolding judged
+  ambiguous-refused f w a h =
+      let c = conflict-found (tree (t .entries) (t .width)) start w (tree-right (t .entries) (t .width) (sane ws out t reads .good) w ∙ a) in
+      (c .0, answered ws out t reads ∙ rw (c .1, f))
+
+  -- where there is none it is generated, if it fits
+  pub clear-generated : fits (tree (t .entries) (t .width)) (length out) ≡ true → ((w : ℕ) → w < 2 ^ (t .width) → select (t .entries) w ≡ ambiguous → ⊥)
+      → generateOf (readTable ws) (length out) ≡ result (size (tree (t .entries) (t .width)) + 1)
+  unfolding judged
+  clear-generated f clear =
+      answered ws out t reads
+      ∙ options (conflict start (tree (t .entries) (t .width)))
+      (λ c. rw (c, f))
+      (λ v c. let r = tree-conflict (t .entries) (t .width) (sane ws out t reads .good) v c in absurd (clear v (r .1) (r .0)))
+
+  -- "else every walk of the written tree names exactly the selected entry, tests no bit twice, and counts truly":
+  -- in the whole buffer, and in the n words that were answered ("words lent after them change no walk")
+  pub walk-right : (n : ℕ) → generateOf (readTable ws) (length out) ≡ result n → (w : ℕ) → w < 2 ^ (t .width)
+      → Right (t .entries) (t .width) (bufferOf (readTable ws) out) w × Right (t .entries) (t .width) (take n (bufferOf (readTable ws) out)) w
+  walk-right n e w h = (
+    rw (buffer-is ws out t reads n e) (written-right ws out t reads n e _ w h),
+    rw (words-are ws out t reads n e) (written-right ws out t reads n e [] w h),
+  )

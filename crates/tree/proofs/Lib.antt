@@ -1,0 +1,13 @@
+pub mod Cells
+pub mod Theorem
+pub mod Machine
+pub mod Searches
+pub mod Parts
+pub mod Loops
+pub mod Deciding
+pub mod Examples
+pub mod Writing
+pub mod Makers
+pub mod Generating
+pub mod Paths
+pub mod Demand

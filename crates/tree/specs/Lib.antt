@@ -1,0 +1,6 @@
+pub mod Cell
+pub mod Tree
+pub mod Written
+pub mod Decide
+pub mod Generate
+pub mod Walk

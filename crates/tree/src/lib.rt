@@ -1,0 +1,70 @@
+// The tree of a table: generating it in its written form.
+ghost use mathlib.Core.Path.{_≡_};
+ghost use Rattle.tree.specs.Generate.{Generates};
+
+mod cell;
+mod maker;
+
+// What an entry is in a cell.
+enum Status {
+    Dead,
+    Sure,
+    Open,
+}
+
+// What the entries' statuses settle: steps 1 and 2.
+enum Verdict {
+    Names(usize),
+    Nothing,
+    Stuck,
+}
+
+// A bit, and how many want it.
+struct Weighed {
+    pub bit: u32,
+    pub weight: usize,
+}
+
+// What to do with a cell: a leaf, or a bit to test.
+enum Decision {
+    Names(u8),
+    Nothing,
+    Conflict,
+    Test(u8),
+}
+
+// The word of the first conflict cell, if there is one.
+enum First {
+    Clean,
+    Clash(u32),
+}
+
+// What a maker answers: the tree does not fit, or the index after it and its first conflict.
+enum Made {
+    Full,
+    Wrote(usize, First),
+}
+
+// What generating answers: the number of words of the tree; or why not: it does not fit (5), an ambiguous word (6),
+// or the number and place of the table's first fault (1 to 4).
+pub enum Generated {
+    Words(u32),
+    NoFit,
+    Ambiguous(u32),
+    Refused(u32, u32),
+}
+
+// Writes the tree of a table at the buffer's start.
+pub fn generate(table: &[u32], out: &mut [u32]) -> Generated
+    ensures { λ r. ⌜ Generates (now (table .entry)) (now (out .entry)) (now (out .exit)) r ⌝ }
+{
+    let reading = table::read(table);
+    let answer = reading.answer;
+    let places = reading.places;
+    match answer {
+        table::Answer::Refused { number, place } => Generated::Refused(number, place),
+        table::Answer::Accepted { width, count } => {
+            maker::write_tree(table, &places, count as usize, width, out)
+        }
+    }
+}

@@ -1,0 +1,3 @@
+pub mod Nodes
+pub mod Paths
+pub mod Headers

@@ -1,0 +1,42 @@
+-- Where a path goes from a node that the code has read. Assumes nothing.
+use Prim.Native.Nat.{ℕ, _+_, _/_, _^_, _≤_, _<_}
+use mathlib.Core.Path.{_≡_, refl, sym, ap, _∙_, subst}
+use mathlib.Core.Bool.{true, false, cond}
+use native.Mathlib.Omega.{arith}
+use lib.Bits.{bitAnd}
+use lib.Dec.{eqb}
+use borrow.Author.Tests.{eq-eqb, ne-eqb}
+use Rattle.words.specs.Words.{bit}
+use Rattle.flat.specs.Nodes.{nodeOf, NodeBounds}
+use Rattle.flat.specs.declared.Node.{Node}
+use Rattle.flat.specs.declared.Node.the-variants as node
+use Rattle.words.proofs.Parts.{bit-shr}
+use Rattle.walker.specs.Walked.{wentOf}
+use Rattle.walker.specs.declared.Went.{Went}
+use Rattle.walker.specs.declared.Went.the-variants as went
+
+module _ (width n at x w : ℕ) (r : Node) (is : r ≡ nodeOf width n at x) where
+  pub goes : (y : Node) → r ≡ y → wentOf y w at ≡ wentOf (nodeOf width n at x) w at
+  goes y e = ap (λ (z : Node). wentOf z w at) (sym e ∙ is)
+
+  module _ (bounds : NodeBounds r width n at) (b k : ℕ) (e : r ≡ node.Asks b k) where
+    pub side : NodeBounds (node.Asks b k) width n at
+    side = subst (λ (z : Node). NodeBounds z width n at) e bounds
+
+    pub goes-one : bitAnd (w / 2 ^ b) 1 ≡ 1 → (went.On k ≡ wentOf (nodeOf width n at x) w at) × ((at < k) × (k ≤ n))
+    unfolding wentOf
+    goes-one t =
+        let s = side in
+        let o = sym (bit-shr w b) ∙ eq-eqb (bitAnd (w / 2 ^ b) 1) 1 t in
+        (ap (λ p. went.On (cond p k (at + 1))) (sym o) ∙ goes (node.Asks b k) e, (omega arith, s .3))
+
+    pub goes-zero : (bitAnd (w / 2 ^ b) 1 ≡ 1 → ⊥) → (went.On (at + 1) ≡ wentOf (nodeOf width n at x) w at) × ((at < at + 1) × (at + 1 ≤ n))
+    unfolding wentOf
+    goes-zero t =
+        let s = side in
+        let o = sym (bit-shr w b) ∙ ne-eqb (bitAnd (w / 2 ^ b) 1) 1 t in
+        (ap (λ p. went.On (cond p k (at + 1))) (sym o) ∙ goes (node.Asks b k) e, (omega arith, omega arith))
+
+  pub goes-names : NodeBounds r width n at → (e : ℕ) → r ≡ node.Names e → (went.Entry e ≡ wentOf (nodeOf width n at x) w at) × (e < 256)
+  unfolding wentOf
+  goes-names bounds e q = (goes (node.Names e) q, subst (λ (z : Node). NodeBounds z width n at) q bounds)

@@ -1,0 +1,353 @@
+"""Compares requests 3, 4 and 10 of probe (generate, the walk exported to C, walk on words) with the second
+implementation, line for line; then checks probe's own trees against probe's own lookups, without the second one.
+
+Usage: compare_tree.py [path of probe]. Exits with status 1 at the first difference.
+"""
+
+import random
+import sys
+from collections import Counter
+from dataclasses import dataclass
+
+import probe
+from second import examples, selection, tables, trees
+from second.lines import line_of
+from second.reader import Refusal, read
+from second.tree import MOST_TREE_WORDS, nodes_of
+
+SEED = 3
+TABLES = 1200
+USUAL_NODES = 1000      # larger trees are made on purpose only, because Python is slow
+SMALL_NODES = 9         # trees of at most that many nodes are damaged in every way
+ALL_WORDS_WIDTH = 10    # up to that width every word is walked
+AT_ONCE = 60            # tables whose walks are asked in one go
+
+
+@dataclass
+class Case:
+    name: str
+    plan: tables.TablePlan      # None where the table is damaged or written by hand
+    question: tuple
+
+
+# ---------------------------------------------------------------------------- tables
+
+def some_plan(rng, width):
+    style = rng.random()
+    if style < 0.34:
+        return tables.nested_plan(rng, width)
+    if style < 0.46:
+        return tables.joined_plan(rng, width) or tables.nested_plan(rng, width)
+    if style < 0.64:
+        return tables.divided_plan(rng, width)
+    if style < 0.82:
+        return tables.overlapping_plan(rng, width)
+    if style < 0.88:
+        return tables.overlapping_plan(rng, width, most_entries=5, conditions_often=0)
+    if style < 0.95:
+        return tables.good_plan(rng, width, most_entries=8, conditions_often=0.6)
+    return tables.small_entries_plan(rng, width, rng.choice([10, 30, 100]))
+
+
+def usual_plan(rng, width):
+    """A plan with a tree of a usual size, and that size. The second implementation only sorts out plans here."""
+    while True:
+        plan = some_plan(rng, width)
+        nodes = nodes_of(read(tables.lay_out(plan).words), USUAL_NODES)
+        if nodes is not None:
+            return plan, len(nodes)
+
+
+def random_buffer(rng, length):
+    return [rng.getrandbits(32) for _ in range(length)]
+
+
+def usual_tables(rng):
+    for index in range(TABLES):
+        plan, nodes = usual_plan(rng, 1 + index % 32)
+        words = tables.lay_out(plan).words
+        # The last answer has a few words after the tree; that one is walked later.
+        lengths = [0, 1, nodes + 1, nodes, rng.randint(0, nodes + 1), nodes + 2 + rng.randrange(12)]
+        for length in lengths:
+            yield Case("usual table", plan, ("generate", words, random_buffer(rng, length)))
+
+
+def refused_tables(rng):
+    """1 to 4 come before 5 and 6, and leave the buffer as it was."""
+    for index in range(300):
+        laid = tables.lay_out(some_plan(rng, 1 + index % 32))
+        words = tables.damaged(laid.words, tables.some_damage(rng, laid))
+        yield Case("refused table", None, ("generate", words, random_buffer(rng, rng.choice([0, 1, 2, 9, 40]))))
+    laid = tables.lay_out(tables.nested_plan(rng, 8))
+    words = tables.damaged(laid.words, tables.too_long(rng, laid))
+    yield Case("too long a table", None, ("generate", words, random_buffer(rng, 100)))
+
+
+def tables_at_the_limit(rng):
+    """Trees of 16,384 words, the two words more that make them too large, and trees far too large."""
+    for width, twice in ((13, True), (20, False), (32, False), (32, True)):
+        plan = tables.full_tree_plan(rng, width, 13, twice=twice)
+        for length in (MOST_TREE_WORDS - 1, MOST_TREE_WORDS, MOST_TREE_WORDS + 3, 0):
+            yield Case("at the limit", plan, ("generate", tables.lay_out(plan).words, random_buffer(rng, length)))
+    for width, twice in ((14, False), (32, True)):
+        plan = tables.full_tree_plan(rng, width, 13, one_more=True, twice=twice)
+        for length in (MOST_TREE_WORDS, MOST_TREE_WORDS + 1, MOST_TREE_WORDS + 2, 20000):
+            yield Case("one test over", plan, ("generate", tables.lay_out(plan).words, random_buffer(rng, length)))
+    for width, depth, twice in ((14, 14, False), (31, 31, True), (32, 32, False)):
+        plan = tables.full_tree_plan(rng, width, depth, twice=twice)
+        for length in (MOST_TREE_WORDS, 32768, 1):
+            yield Case("far over", plan, ("generate", tables.lay_out(plan).words, random_buffer(rng, length)))
+    for depth in range(1, 12):
+        plan = tables.full_tree_plan(rng, rng.randint(depth, 32), depth)
+        words = tables.lay_out(plan).words
+        for length in (2 ** (depth + 1) - 1, 2 ** (depth + 1), 2 ** (depth + 1) + 1):
+            yield Case("full tree", plan, ("generate", words, random_buffer(rng, length)))
+
+
+def large_random_trees(rng):
+    """Random tables whose trees are larger than usual; many of them don't fit anywhere."""
+    done = 0
+    while done < 8:
+        plan = some_plan(rng, rng.randint(18, 32))
+        words = tables.lay_out(plan).words
+        if len(plan.entries) > 10 or nodes_of(read(words), USUAL_NODES) is not None:
+            continue
+        done += 1
+        for length in (MOST_TREE_WORDS, USUAL_NODES):
+            yield Case("large random tree", plan, ("generate", words, random_buffer(rng, length)))
+
+
+def hand_written():
+    """The tables of document 01 and of examples.py, with buffers of every small length."""
+    for words in (examples.PRINTED, examples.EVERY_KIND, examples.WORKED, examples.ZERO_HIGH_ZERO_LOW, examples.WITH_THIRD,
+                  examples.MORE_MASK_BITS, examples.SHORT, examples.SHORT_AND_LONG, examples.EIGHT_UNMATCHING,
+                  examples.EIGHT_CONDITIONS, [], [0x10000001], [0x10000020]):
+        for length in range(34):
+            yield Case("by hand", None, ("generate", words, [0x01010101 * (at % 256) for at in range(1, length + 1)]))
+
+
+def compare_generating(path, rng, tally):
+    """Every generated tree as (plan, table's words, tree, words after it), as probe wrote it."""
+    cases = []
+    for source in (hand_written(), usual_tables(rng), refused_tables(rng), tables_at_the_limit(rng), large_random_trees(rng)):
+        cases += source
+    generated = {}
+    for case, seen in zip(cases, probe.ask(path, [case.question for case in cases]), strict=True):
+        probe.stop_at_difference(case.name, case.question, line_of(case.question), seen)
+        _, words, buffer = case.question
+        front, _, back = seen.partition(" |")
+        parts = front.split(" ")
+        tally["generate " + (parts[1] if parts[1] != "0" else "answered")] += 1
+        tally["generating, " + case.name] += 1
+        if case.plan is not None:
+            tally[f"width {case.plan.width}"] += 1
+        if parts[1] == "6" and parts[3] != "00000000":
+            tally["ambiguous, not word 0"] += 1
+        if parts[1] == "0" and case.plan is not None:
+            after = [int(word, 16) for word in back.split()]
+            length = int(parts[4])
+            generated[tuple(words)] = (case.plan, words, after[:length], after[length:])
+            tally["generated exactly" if length == len(buffer) else "generated with words left"] += 1
+    return list(generated.values())
+
+
+# ---------------------------------------------------------------------------- walks of generated trees
+
+def words_to_walk(rng, plan, tree):
+    if plan.width <= ALL_WORDS_WIDTH:
+        yield from range(1 << plan.width)
+    else:
+        for _ in range(20 if len(tree) <= USUAL_NODES + 1 else 4):
+            yield tables.word_for(rng, plan)
+            yield tables.word_on(rng, plan.width, [])
+    for _ in range(4):
+        high = tables.high_word(rng, plan)
+        if high is not None:
+            yield high
+    yield from (0, (1 << plan.width) - 1, 1 << plan.width & 0xFFFFFFFF, 0xFFFFFFFF)
+
+
+def walk_question(by_bytes, tree, word):
+    return ("walk bytes", probe.pack(tree), word) if by_bytes else ("walk", tree, word)
+
+
+def taken_apart(line):
+    """Number, place, what is named (text) and the count of a walk's line, of either request."""
+    parts = line.split(" ")
+    if parts[0] == "10":
+        named = parts[4:] or ["0", "0"]
+        return int(parts[1]), int(parts[2]), named[0], int(named[1])
+    result = int(parts[4], 16)
+    named = "nothing" if result >> 8 & 1 else str(result & 0xFF)
+    return result >> 32 & 0xFF, result >> 48, named, result >> 16 & 0xFFFF
+
+
+def check_against_lookup(words, tree, word, walked, looked_up):
+    """probe's walk and probe's lookup, and the second lookup, say the same of a word; walks know no other refusal than 7."""
+    number, _, named, count = taken_apart(walked)
+    second = selection.lookup(words, word)
+    wanted = f"2 {number} 0 00000000" + ("" if number else f" {named}")
+    wanted_second = Refusal(7) if number else named
+    if number not in (0, 7) or looked_up != wanted or str(second) != str(wanted_second):
+        probe.stop_at_difference("walk against lookup", ("walk", tree, word), f"{looked_up}, second lookup {second}", walked)
+    # No path of a generated tree tests a bit twice.
+    if count > tree[0] >> 16 & 0x3F:
+        probe.stop_at_difference("count over the width", ("walk", tree, word), "a smaller count", walked)
+
+
+def count_walk(tally, what, seen):
+    number, _, named, count = taken_apart(seen)
+    outcome = str(number) if number else "nothing" if named == "nothing" else "entry"
+    tally[f"{what} {outcome}"] += 1
+    tally[f"walk {outcome}"] += 1
+    tally["request " + seen.split(" ")[0]] += 1
+    if number == 0 and count > 0:
+        tally["walks with tests"] += 1
+
+
+def compare_walks(path, rng, generated, tally):
+    for start in range(0, len(generated), AT_ONCE):
+        asked = []
+        for plan, words, tree, left in generated[start:start + AT_ONCE]:
+            for word in words_to_walk(rng, plan, tree):
+                # Words lent after the tree change nothing.
+                lent = tree + left if rng.random() < 0.3 else tree
+                asked.append((words, tree, word, walk_question(rng.random() < 0.5, lent, word)))
+        walked = probe.ask(path, [question for *_, question in asked])
+        looked_up = probe.ask(path, [("lookup", words, word) for words, _, word, _ in asked])
+        for (words, tree, word, question), seen, found in zip(asked, walked, looked_up, strict=True):
+            probe.stop_at_difference("walk of a generated tree", question, line_of(question), seen)
+            check_against_lookup(words, tree, word, seen, found)
+            count_walk(tally, "generated", seen)
+
+
+# ---------------------------------------------------------------------------- other trees
+
+def damaged_trees(rng, generated):
+    """Each node of small generated trees altered in each way; a word that comes by, one that needn't, and a high one."""
+    small = [tree for _, _, tree, _ in generated if len(tree) <= SMALL_NODES + 1]
+    for tree in rng.sample(small, 60):
+        width = tree[0] >> 16 & 0x3F
+        for index in range(1, len(tree)):
+            for what, changed in trees.altered_nodes(rng, tree, index):
+                yield "damaged " + what, changed, trees.word_to(rng, tree, index)
+                yield "damaged " + what, changed, rng.getrandbits(width)
+            high = trees.high_word(rng, width)
+            if high is not None:
+                # 7 comes before 9.
+                yield "damaged and a high word", changed, high
+
+
+def damaged_headers(rng, generated):
+    for _, _, tree, _ in rng.sample(generated, 60):
+        width = tree[0] >> 16 & 0x3F
+        for what, changed in trees.altered_headers(rng, tree[:200]):
+            yield what, changed, rng.getrandbits(width)
+            high = trees.high_word(rng, width)
+            if high is not None and rng.random() < 0.4:
+                # 8 comes before 7.
+                yield what + " and a high word", changed, high
+
+
+def foreign_trees(rng):
+    """Trees that no table has: nodes that are each good by themselves, and some with a few damages."""
+    for index in range(600):
+        width = 1 + index % 32
+        tree = trees.foreign(rng, width, rng.choice([1, 2, 3, 4, 5, 9, 20, 60, 300]))
+        for _ in range(5):
+            lent = tree + random_buffer(rng, rng.choice([0, 0, 1, 7]))
+            yield "foreign", lent, rng.getrandbits(width)
+            yield "foreign, a bit flipped", trees.flipped(rng, tree), rng.getrandbits(width)
+        high = trees.high_word(rng, width)
+        if high is not None:
+            yield "foreign and a high word", tree, high
+
+
+def largest_trees(rng):
+    """65,535 nodes, the most that a header can say: long paths, a count and a place that fill their sixteen bits."""
+    chain = trees.chain(65535)
+    yield "longest path", chain, 0
+    yield "longest path left at once", chain, 1
+    yield "longest path and words after it", chain + [0x70010001], 0
+    yield "one node fewer than said", chain[:-1], 0
+    yield "last node damaged", chain[:1] + [8 << 28 | 65535] + chain[2:-1] + [0], 1
+    yield "last node tests", chain[:1] + [8 << 28 | 65535] + chain[2:-1] + [8 << 28 | 65535], 1
+    for _ in range(4):
+        yield "large foreign", trees.foreign(rng, 32, 65535), rng.getrandbits(32)
+
+
+def cut_bytes(rng, generated):
+    """Lengths in bytes: not a multiple of four is 8, whatever the whole words before it are."""
+    for _, _, tree, left in rng.sample(generated, 120):
+        data = probe.pack(tree[:300] + left)
+        word = rng.getrandbits(tree[0] >> 16 & 0x3F)
+        for length in {0, 1, 2, 3, 4, 5, 8, len(data) - 5, len(data) - 4, len(data) - 3, len(data) - 2, len(data) - 1,
+                       rng.randint(0, len(data))}:
+            if length >= 0:
+                yield "cut bytes", data[:length], word
+        for extra in (1, 2, 3):
+            yield "bytes after it", data + bytes(rng.getrandbits(8) for _ in range(extra)), word
+
+
+def other_questions(rng, generated):
+    for source in (damaged_trees(rng, generated), damaged_headers(rng, generated), foreign_trees(rng)):
+        for what, tree, word in source:
+            yield what, walk_question(rng.random() < 0.5, tree, word)
+    for what, tree, word in largest_trees(rng):
+        yield what, walk_question(False, tree, word)
+        yield what, walk_question(True, tree, word)
+    for what, data, word in cut_bytes(rng, generated):
+        yield what, ("walk bytes", data, word)
+
+
+def compare_other_trees(path, rng, generated, tally):
+    questions = list(other_questions(rng, generated))
+    for (what, question), seen in zip(questions, probe.ask(path, [question for _, question in questions]), strict=True):
+        probe.stop_at_difference(what, question, line_of(question), seen)
+        count_walk(tally, what.split(",")[0].split(" and ")[0], seen)
+
+
+# ---------------------------------------------------------------------------- counting
+
+LEAST = {
+    "generate answered": 1500, "generate 5": 1500, "generate 6": 400, "ambiguous, not word 0": 300,
+    "generate 1": 10, "generate 2": 80, "generate 3": 10, "generate 4": 50,
+    "generated exactly": 600, "generated with words left": 600,
+    "generating, at the limit": 16, "generating, one test over": 8, "generating, far over": 9,
+    "generating, large random tree": 16, "generating, full tree": 33,
+    **{f"width {width}": 150 for width in range(1, 33)},
+    "generated entry": 20000, "generated nothing": 10000, "generated 7": 2000, "walks with tests": 20000,
+    "walk entry": 20000, "walk nothing": 20000, "walk 7": 3000, "walk 8": 3000, "walk 9": 10000,
+    "request 4": 30000, "request 10": 30000,
+    "damaged kind 9": 1000, "damaged spare bit 9": 1000, "damaged tested bit 9": 500, "damaged index below 9": 300,
+    "damaged index above 9": 200, "damaged tested bit entry": 100, "damaged kind entry": 100, "damaged 7": 100,
+    "header kind 8": 500, "header spare 8": 200, "header width 8": 1000, "header nodes 8": 100,
+    "header nodes entry": 20, "header nodes nothing": 20,
+    "foreign entry": 500, "foreign nothing": 500, "foreign 7": 200, "foreign 9": 300,
+    "longest path entry": 2, "cut bytes 8": 800, "bytes after it 8": 300,
+}
+
+
+def require_enough(tally):
+    """A test whose cases went missing must not pass."""
+    for what, least in LEAST.items():
+        if tally[what] < least:
+            print(f"only {tally[what]} of: {what}; at least {least} are needed")
+            sys.exit(1)
+
+
+def main():
+    path = probe.path_from_arguments()
+    rng = random.Random(SEED)
+    tally = Counter()
+    generated = compare_generating(path, rng, tally)
+    compare_walks(path, rng, generated, tally)
+    compare_other_trees(path, rng, generated, tally)
+    require_enough(tally)
+    generate = ", ".join(f"{one}: {tally[f'generate {one}']}" for one in ("answered", "1", "2", "3", "4", "5", "6"))
+    walk = ", ".join(f"{one}: {tally[f'walk {one}']}" for one in ("entry", "nothing", "7", "8", "9"))
+    print(f"compare_tree good: {TABLES} random tables, {len(generated)} trees; generate {generate}; walk {walk}")
+
+
+if __name__ == "__main__":
+    main()
