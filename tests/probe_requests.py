@@ -1,4 +1,4 @@
-"""Tests of the framing of requests 2, 5 and 6 (probe-format.md): cut after each word, counts too large, trailing
+"""Tests of the framing of requests 2 to 6 and 10 (probe-format.md): cut after each word, counts too large, trailing
 bytes, and lines longer than probe's line buffer. Whole requests get the second implementation's line.
 
 Usage: probe_requests.py [path of probe]. Exits with status 1 at the first difference. It stands beside probe.py.
@@ -10,6 +10,7 @@ import probe
 from second.lines import line_of
 
 PRINTED = [0x10010002, 0x20050210, 0x00000002, 0x00000002, 0x30000001]
+TREE = [0x70020003, 0x80800003, 0xA0000000, 0x90000000]
 EIGHT = [0x11111111 * k for k in range(1, 9)]
 WORDS_IN_FULL_INPUT = 262144
 
@@ -17,6 +18,9 @@ QUESTIONS = [
     ("lookup", PRINTED, 3), ("lookup", PRINTED, 0xFFFFFFFF), ("lookup", [], 3),
     ("decode", PRINTED, 3, EIGHT), ("decode", PRINTED, 3, EIGHT[:7]), ("decode", PRINTED, 0, EIGHT), ("decode", [], 3, []),
     ("encode", PRINTED, 0, [1]), ("encode", PRINTED, 0, [2]), ("encode", PRINTED, 0xFFFFFFFF, []), ("encode", [], 0, [5, 6]),
+    ("generate", PRINTED, EIGHT), ("generate", PRINTED, EIGHT[:3]), ("generate", [], EIGHT[:2]), ("generate", PRINTED, []),
+    ("walk bytes", probe.pack(TREE), 3), ("walk bytes", probe.pack(TREE)[:15], 3), ("walk bytes", b"", 0),
+    ("walk", TREE, 3), ("walk", TREE, 4), ("walk", [], 0),
 ]
 TOO_LARGE = (6, 7, 0x100, 262144, 0x3FFFFFFF, 0x40000000, 0x40000005, 0x7FFFFFFF, 0x80000000, 0xFFFFFFFA, 0xFFFFFFFB,
              0xFFFFFFFC, 0xFFFFFFFD, 0xFFFFFFFE, 0xFFFFFFFF)
@@ -42,12 +46,15 @@ def whole_and_cut():
 
 def counts_too_large():
     for count in TOO_LARGE:
-        for number in (2, 5, 6):
+        for number in (2, 3, 5, 6, 10):
             yield number, probe.pack([number, count, *PRINTED]), ["stopped 0"]
             yield number, probe.pack([1, 0, number, count, *PRINTED]), ["1 1 0 00000000", "stopped 2"]
         for number in (5, 6):
             yield number, probe.pack([number, 5, *PRINTED, 3, count]), ["stopped 0"]
             yield number, probe.pack([number, 5, *PRINTED, 3, count, 1, 2, 3, 4, 5]), ["stopped 0"]
+        yield 3, probe.pack([3, 5, *PRINTED, count, 1, 2, 3, 4, 5]), ["stopped 0"]
+        # a tree as bytes and the word after it: five words hold 16 bytes and the word
+        yield 4, probe.pack([4, max(count, 17), *PRINTED]), ["stopped 0"]
 
 
 def long_lines():

@@ -6,6 +6,7 @@
 --     walk-right     the walks of the tree that was written
 use mathlib.Core.Path.{_≡_, refl, sym, ap, _∙_, subst}
 use mathlib.Core.Bool.{true}
+use mathlib.Core.Logic.{_↔_}
 use mathlib.Core.List.{List, [], _++_, append-nil}
 use mathlib.Core.Option.{Option, none, some}
 use Prim.Native.Nat.{ℕ, _+_, _^_, _≤_, _<_}
@@ -21,7 +22,8 @@ use Rattle.table.specs.Check.{Check, fine, fault, firstCheck, tableCheck, readi
 use Rattle.table.specs.Lawful.{goodTable}
 use Rattle.table.proofs.Laws.{then-l, then-r, need-true, first-count, first-width, length-entries}
 use Rattle.table.proofs.Good.{table-good}
-use Rattle.selection.specs.Selection.{ambiguous, select}
+use Rattle.selection.specs.Selection.{Choice, names, nothing, ambiguous, select}
+use Rattle.selection.proofs.Formula.{Selects, Unclaimed, names-exactly, nothing-exactly}
 use Rattle.tree.specs.Cell.{start}
 use Rattle.tree.specs.Tree.{Tree, tree, size, asked, distinct, conflict}
 use Rattle.tree.specs.Written.{written}
@@ -40,8 +42,25 @@ pub record Right (es : List Entry) (width : ℕ) (words : List ℕ) (w : ℕ) : 
   pub walks : path (size (tree es width)) words width (size (tree es width)) w 1 ≡ arrives (named (select es w)) tests
   -- what the walk answers
   pub answers : walkOf words w ≡ result (record { entry = named (select es w); count = length tests })
+  -- it names an entry exactly when that claims the word and is more specific than every other entry that does,
+  pub selected : (e : ℕ) → (named (select es w) ≡ some e) ↔ Selects es w e
+  -- and nothing exactly when no entry claims the word
+  pub unclaimed : (named (select es w) ≡ none) ↔ Unclaimed es w
+  -- no bit is tested twice, and the count is at most the width
   pub once : distinct tests ≡ true
   pub few : length tests ≤ width
+
+-- ---- what a choice names
+
+named-entry : (a : Choice) (e : ℕ) → named a ≡ some e → a ≡ names e
+named-entry (names i) e q = let z : i ≡ e = cc in ap names z
+named-entry nothing e q = absurd (let z : _≡_ {A = ℕ} 0 1 = cc in omega arith)
+named-entry ambiguous e q = absurd (let z : _≡_ {A = ℕ} 0 1 = cc in omega arith)
+
+named-nothing : (a : Choice) → (a ≡ ambiguous → ⊥) → named a ≡ none → a ≡ nothing
+named-nothing (names i) h q = absurd (let z : _≡_ {A = ℕ} 0 1 = cc in omega arith)
+named-nothing nothing h q = refl
+named-nothing ambiguous h q = absurd (h refl)
 
 -- ---- a table that was read
 
@@ -118,11 +137,16 @@ module _ (ws out : List ℕ) (t : Table) (reads : readTable ws ≡ result t) whe
   walks-right clean small rest w h =
       let good = sane .good in
       let sound = sound-tree (t .entries) (t .width) good (sane .short) in
+      let clear = tree-sound (t .entries) (t .width) good clean w in
+      let selects = names-exactly (t .entries) w in
+      let claimless = nothing-exactly (t .entries) w in
       record {
-        clear = tree-sound (t .entries) (t .width) good clean w;
+        clear = clear;
         tests = asked grown w;
         walks = rw (← (tree-right (t .entries) (t .width) good w)) (path-whole (t .width) grown rest w (sane .wide) (sane .narrow) small sound);
         answers = rw (← (tree-right (t .entries) (t .width) good w)) (walk-written (t .width) grown rest w (sane .wide) (sane .narrow) small sound h);
+        selected = λ (e : ℕ). (λ q. selects e .0 (named-entry _ e q), λ q. ap named (selects e .1 q));
+        unclaimed = (λ q. claimless .0 (named-nothing _ clear q), λ q. ap named (claimless .1 q));
         once = tree-once (t .entries) (t .width) good w;
         few = tree-short (t .entries) (t .width) good w;
       }
