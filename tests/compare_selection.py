@@ -245,14 +245,6 @@ LEAST = {
 }
 
 
-def require_enough(tally):
-    """A test whose cases went missing must not pass."""
-    for what, least in LEAST.items():
-        if tally[what] < least:
-            print(f"only {tally[what]} of: {what}; at least {least} are needed")
-            sys.exit(1)
-
-
 def summary(tally, kind):
     outcomes = ("answered", "nothing", "1", "2", "3", "4", "6", "7", "10", "11", "12 at 0", "12 later", "13")
     return f"{kind} " + ", ".join(f"{one}: {tally[f'{kind} {one}']}" for one in outcomes if tally[f"{kind} {one}"])
@@ -269,7 +261,7 @@ def main():
         answers.append(taken_apart(seen))
         count(case, answers[-1], tally)
     check_round_trips(path, cases, answers, tally)
-    require_enough(tally)
+    probe.require_enough(tally, LEAST)
     kinds = "; ".join(summary(tally, kind) for kind in ("lookup", "decode", "encode"))
     trips = tally["round trip of decode"] + tally["round trip of encode"]
     print(f"compare_selection good: {TABLES} tables, {len(cases)} questions; {kinds}; round trips: {trips}")

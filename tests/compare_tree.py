@@ -328,14 +328,6 @@ LEAST = {
 }
 
 
-def require_enough(tally):
-    """A test whose cases went missing must not pass."""
-    for what, least in LEAST.items():
-        if tally[what] < least:
-            print(f"only {tally[what]} of: {what}; at least {least} are needed")
-            sys.exit(1)
-
-
 def main():
     path = probe.path_from_arguments()
     rng = random.Random(SEED)
@@ -343,7 +335,7 @@ def main():
     generated = compare_generating(path, rng, tally)
     compare_walks(path, rng, generated, tally)
     compare_other_trees(path, rng, generated, tally)
-    require_enough(tally)
+    probe.require_enough(tally, LEAST)
     generate = ", ".join(f"{one}: {tally[f'generate {one}']}" for one in ("answered", "1", "2", "3", "4", "5", "6"))
     walk = ", ".join(f"{one}: {tally[f'walk {one}']}" for one in ("entry", "nothing", "7", "8", "9"))
     print(f"compare_tree good: {TABLES} random tables, {len(generated)} trees; generate {generate}; walk {walk}")

@@ -110,3 +110,11 @@ def stop_at_difference(name, question, expected, seen):
     print(f"expected: {expected}")
     print(f"seen:     {seen}")
     sys.exit(1)
+
+
+def require_enough(tally, least):
+    """A test whose cases went missing must not pass: ends it if something was seen less often than it must be."""
+    for what, number in least.items():
+        if tally[what] < number:
+            print(f"only {tally[what]} of: {what}; at least {number} are needed")
+            sys.exit(1)

@@ -365,6 +365,10 @@ module _ (ws : List ℕ) where
   unfolding firstCheck
   first-count e = leb-true _ _ (need-true _ _ _ (then-l _ _ (then-r _ _ (then-r _ _ (then-r _ _ (then-r _ _ e))))))
 
+  pub first-wide : firstCheck ws ≡ fine → 1 ≤ widthOf (word ws 0)
+  unfolding firstCheck
+  first-wide e = leb-true _ _ (need-true _ _ _ (then-l _ _ (then-r _ _ (then-r _ _ (then-r _ _ (then-r _ _ (then-r _ _ e)))))))
+
   pub first-width : firstCheck ws ≡ fine → widthOf (word ws 0) ≤ 32
   unfolding firstCheck
   first-width e = leb-true _ _ (need-true _ _ _ (then-r _ _ (then-r _ _ (then-r _ _ (then-r _ _ (then-r _ _ (then-r _ _ e)))))))

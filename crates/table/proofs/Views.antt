@@ -16,7 +16,7 @@ use Rattle.table.specs.Ready.{Ready}
 use Rattle.table.specs.Answer.{Shape, shapeOf, placeOf, said, Reads}
 use Rattle.table.specs.declared.Answer.the-variants.{Accepted, Refused}
 use Rattle.table.specs.declared.Reading.{Reading}
-use Rattle.table.proofs.Laws.{then-l, then-r, need-true, pattern-fits, unmatching-fits, fields-fit, head-fits, first-some, first-short, first-count, first-width, length-entries, accepts-places, accepts}
+use Rattle.table.proofs.Laws.{then-l, then-r, need-true, pattern-fits, unmatching-fits, fields-fit, head-fits, first-some, first-short, first-count, first-wide, first-width, length-entries, accepts-places, accepts}
 
 -- ---- patterns and conditions, one by one
 
@@ -140,8 +140,7 @@ module _ (ws places : List ℕ) (width count : ℕ) (r : Ready ws places width c
   ready-wide = rw (r .wide) (first-width ws first-fine)
 
   pub ready-not-empty : 1 ≤ width
-  unfolding firstCheck
-  ready-not-empty = rw (r .wide) (leb-true _ _ (need-true _ _ _ (then-l _ _ (then-r _ _ (then-r _ _ (then-r _ _ (then-r _ _ (then-r _ _ first-fine))))))))
+  ready-not-empty = rw (r .wide) (first-wide ws first-fine)
 
   -- entry k stands at its place in the array, without fault
   module _ (k : ℕ) (h : k < count) where

@@ -18,9 +18,9 @@ use Rattle.words.specs.Words.{word}
 use Rattle.words.proofs.Logic.{cases, and-r, options}
 use Rattle.table.specs.Outcome.{Outcome, result, refused}
 use Rattle.table.specs.Table.{Entry, Table, countOf, tableOf}
-use Rattle.table.specs.Check.{Check, fine, fault, firstCheck, tableCheck, reading, readTable}
+use Rattle.table.specs.Check.{Check, fine, fault, tableCheck, reading, readTable}
 use Rattle.table.specs.Lawful.{goodTable}
-use Rattle.table.proofs.Laws.{then-l, then-r, need-true, first-count, first-width, length-entries}
+use Rattle.table.proofs.Laws.{then-l, first-count, first-wide, first-width, length-entries}
 use Rattle.table.proofs.Good.{table-good}
 use Rattle.selection.specs.Selection.{Choice, names, nothing, ambiguous, select}
 use Rattle.selection.proofs.Formula.{Selects, Unclaimed, names-exactly, nothing-exactly}
@@ -76,12 +76,12 @@ record Sane (t : Table) : Type 0 where
   short : length (t .entries) ≤ 256
 
 fine-sane : (ws : List ℕ) → tableCheck ws ≡ fine → Sane (tableOf ws)
-unfolding tableCheck firstCheck
+unfolding tableCheck
 fine-sane ws e =
     let first = then-l _ _ e in
     record {
       good = table-good ws e;
-      wide = leb-true _ _ (need-true _ _ _ (then-l _ _ (then-r _ _ (then-r _ _ (then-r _ _ (then-r _ _ (then-r _ _ first)))))));
+      wide = first-wide ws first;
       narrow = first-width ws first;
       short = omega (arith, length-entries ws (countOf (word ws 0)) 1, first-count ws first);
     }

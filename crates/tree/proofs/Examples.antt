@@ -1,14 +1,23 @@
--- The trees of the small tables of document 01, computed. Assumes nothing.
+-- The trees of the tables of document 01, their written form and their walks, computed. Assumes nothing.
 use Prim.Native.Nat.{ℕ}
 use mathlib.Core.Path.{_≡_, refl}
 use mathlib.Core.List.{List, [], _∷_}
-use mathlib.Core.Option.{Option, some}
+use mathlib.Core.Option.{Option, none, some}
+use lib.ListN.{replicate}
 use Rattle.words.specs.Tests.{_and_, _or_, allOf, anyOf, every, exists, howMany, first, best}
-use Rattle.words.specs.Words.{bit, includes}
-use Rattle.table.specs.Table.{Entry}
+use Rattle.words.specs.Words.{part, bit, includes}
+use Rattle.table.specs.Outcome.{Outcome, result, refused}
+use Rattle.table.specs.Table.{Entry, tableOf}
+use Rattle.table.specs.Check.{readTable}
+use Rattle.table.specs.Worked.{printed, worked}
+use Rattle.table.proofs.Examples.{opened}
 use Rattle.selection.specs.Selection.{names, nothing, matches, moreSpecific, beats, judge}
 use Rattle.tree.specs.Cell.{start, implies, clashes, holds, fails, openCondition, dead, live, sure, openEntry}
 use Rattle.tree.specs.Tree.{leaf, test, votes, inCondition, inOpen, wanted, tested, step, treeOf, free, below, tree, size, conflict}
+use Rattle.tree.specs.Written.{headerWord, testWord, leafWord, nodes, written}
+use Rattle.tree.specs.Generate.{fits, judged, generateOf, leftBy, bufferOf, tableWith}
+use Rattle.flat.specs.Nodes.{headerRest, headerOf, testNode, namesNode, nothingNode, nodeOf}
+use Rattle.tree.specs.Walk.{Walk, path, enters, walkOf}
 
 -- a tree and its first conflict, with every definition open
 unfoldable grown : List Entry → ℕ → Option ℕ
@@ -47,3 +56,99 @@ wide-conflict = refl
 pub one-tree : tree (plain 2 2 ∷ []) 2 ≡ test 1 (leaf nothing) (leaf (names 0))
 unfolding grown
 one-tree = refl
+
+-- the worked table, from its words: 27 nodes, no conflict
+pub worked-nodes : size (tree (tableOf worked .entries) 8) ≡ 27
+unfolding opened grown
+worked-nodes = refl
+
+pub worked-clear : conflict start (tree (tableOf worked .entries) 8) ≡ none
+unfolding opened grown
+worked-clear = refl
+
+-- ---- generating, from the words of the table on
+
+-- what generating answers, with every definition open
+unfoldable answered : Outcome ℕ → Outcome ℕ
+unfolding opened grown fits judged generateOf leftBy bufferOf headerWord testWord leafWord nodes written
+answered r = r
+
+-- "For the words 10010002 20050210 00000002 00000002 30000001 it prints": the four words; a fifth in the buffer stays
+abbrev printed-tree : List ℕ
+printed-tree = 0x70020003 ∷ 0x80800003 ∷ 0xa0000000 ∷ 0x90000000 ∷ []
+
+pub printed-answer : generateOf (readTable printed) 5 ≡ result 4
+unfolding answered
+printed-answer = refl
+
+pub printed-buffer : bufferOf (readTable printed) (1 ∷ 2 ∷ 3 ∷ 4 ∷ 5 ∷ []) ≡ 0x70020003 ∷ 0x80800003 ∷ 0xa0000000 ∷ 0x90000000 ∷ 5 ∷ []
+unfolding answered
+printed-buffer = refl
+
+-- in three words it does not fit, and the buffer is all zero; a table at fault leaves it as it was
+pub printed-short : generateOf (readTable printed) 3 ≡ refused 5 0 0
+unfolding answered
+printed-short = refl
+
+pub printed-cleared : bufferOf (readTable printed) (1 ∷ 2 ∷ 3 ∷ []) ≡ 0 ∷ 0 ∷ 0 ∷ []
+unfolding answered
+printed-cleared = refl
+
+pub empty-kept : bufferOf (readTable []) (1 ∷ 2 ∷ 3 ∷ []) ≡ 1 ∷ 2 ∷ 3 ∷ []
+unfolding answered
+empty-kept = refl
+
+-- "Width 3, patterns 0-- and --0: .. 8 words give 6 with word 0, 7 words give 5"
+pub two-ambiguous : generateOf (result (tableWith two 3)) 8 ≡ refused 6 0 0
+unfolding answered
+two-ambiguous = refl
+
+pub two-cleared : bufferOf (result (tableWith two 3)) (replicate 8 9) ≡ replicate 8 0
+unfolding answered
+two-cleared = refl
+
+pub two-short : generateOf (result (tableWith two 3)) 7 ≡ refused 5 0 0
+unfolding answered
+two-short = refl
+
+-- "With 0-0 added: accepted in 8 words"
+pub three-accepted : generateOf (result (tableWith (plain 4 0 ∷ plain 1 0 ∷ plain 5 0 ∷ []) 3)) 8 ≡ result 8
+unfolding answered
+three-accepted = refl
+
+-- ---- walking
+
+unfoldable walked : Outcome Walk → Outcome Walk
+unfolding bit part _and_ headerRest headerOf testNode namesNode nothingNode nodeOf path enters walkOf
+walked r = r
+
+-- the printed tree: 1- is entry 0, 0- is nothing, each after one test; 4 has a bit at the width
+pub walk-entry : walkOf printed-tree 2 ≡ result (record { entry = some 0; count = 1 })
+unfolding walked
+walk-entry = refl
+
+pub walk-nothing : walkOf printed-tree 1 ≡ result (record { entry = none; count = 1 })
+unfolding walked
+walk-nothing = refl
+
+pub walk-wide : walkOf printed-tree 4 ≡ refused 7 0 0
+unfolding walked
+walk-wide = refl
+
+-- no words, a word missing, and a one side at its node's own index + 1
+pub walk-empty : walkOf [] 0 ≡ refused 8 0 0
+unfolding walked
+walk-empty = refl
+
+pub walk-cut : walkOf (0x70020003 ∷ 0x80800003 ∷ 0xa0000000 ∷ []) 0 ≡ refused 8 0 0
+unfolding walked
+walk-cut = refl
+
+pub walk-damaged : walkOf (0x70020003 ∷ 0x80800002 ∷ 0xa0000000 ∷ 0x90000000 ∷ []) 0 ≡ refused 9 1 0
+unfolding walked
+walk-damaged = refl
+
+-- a leaf with a spare bit, on the path of 2 and not on that of 1
+pub walk-spare : walkOf (0x70020003 ∷ 0x80800003 ∷ 0xa0000000 ∷ 0x90000100 ∷ []) 2 ≡ refused 9 3 0
+unfolding walked
+walk-spare = refl

@@ -1,0 +1,42 @@
+-- The answer in 64 bits and the tree as bytes, computed on the tree that document 01 prints. Assumes nothing.
+use Prim.Native.Nat.{ℕ}
+use mathlib.Core.Path.{_≡_, refl}
+use mathlib.Core.List.{List, [], _∷_}
+use Rattle.words.specs.Words.{part, bit}
+use Rattle.words.specs.Tests.{_and_}
+use Rattle.words.specs.Bytes.{wordOf, wordsOf}
+use Rattle.flat.specs.Nodes.{headerRest, headerOf, testNode, namesNode, nothingNode, nodeOf}
+use Rattle.tree.specs.Walk.{path, enters, walkOf}
+use Rattle.walker.specs.Walked.{walkBytes}
+use Rattle.kilnumber.specs.Packed.{packed}
+
+-- what the call answers, with every definition open
+unfoldable answered : List ℕ → ℕ → ℕ
+unfolding part bit _and_ wordOf wordsOf headerRest headerOf testNode namesNode nothingNode nodeOf path enters walkOf walkBytes
+answered bytes w = packed (walkBytes bytes w)
+
+-- 70020003 80800003 a0000000 90000000, each low byte first
+abbrev bytes : List ℕ
+bytes = 3 ∷ 0 ∷ 2 ∷ 0x70 ∷ 3 ∷ 0 ∷ 0x80 ∷ 0x80 ∷ 0 ∷ 0 ∷ 0 ∷ 0xa0 ∷ 0 ∷ 0 ∷ 0 ∷ 0x90 ∷ []
+
+-- entry 0 after one test; nothing after one test; a bit at the width: 7; a length that is no multiple of four: 8
+entry-is : packed (walkBytes bytes 2) ≡ 0x10000
+unfolding answered
+entry-is = refl
+
+nothing-is : packed (walkBytes bytes 1) ≡ 0x10100
+unfolding answered
+nothing-is = refl
+
+wide-is : packed (walkBytes bytes 4) ≡ 0x700000000
+unfolding answered
+wide-is = refl
+
+odd-is : packed (walkBytes (3 ∷ 0 ∷ 2 ∷ []) 0) ≡ 0x800000000
+unfolding answered
+odd-is = refl
+
+-- a damaged node at index 1: 9 with its index in bits 63–48
+damaged-is : packed (walkBytes (1 ∷ 0 ∷ 2 ∷ 0x70 ∷ 0 ∷ 0 ∷ 0 ∷ 0xb0 ∷ []) 0) ≡ 0x1000900000000
+unfolding answered
+damaged-is = refl
