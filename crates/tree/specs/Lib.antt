@@ -1,6 +1,4 @@
-pub mod Cell
 pub mod Tree
 pub mod Written
-pub mod Decide
 pub mod Generate
 pub mod Walk

@@ -1,10 +1,9 @@
 // The makers: the tree of a cell, in its written form, into a lent buffer. Making a tree and making a node call each other;
 // the number of unfixed bits falls with each tested bit.
-use crate::Decision;
 use crate::First;
 use crate::Generated;
 use crate::Made;
-use crate::cell;
+use cell::Decision;
 ghost use mathlib.Core.Path.{_≡_};
 ghost use mathlib.Core.Bool.{false};
 ghost use Prim.Native.Nat.{ℕ, _+_, _≤_, _<_, _^_, min};
@@ -16,7 +15,7 @@ ghost use Rattle.table.specs.Table.{entriesAt};
 ghost use Rattle.selection.specs.Selection.{names, nothing};
 ghost use Rattle.tree.specs.Tree.{below};
 ghost use Rattle.tree.specs.Written.{leafWord, testWord, headerWord};
-ghost use Rattle.tree.specs.Decide.{cell as cellOf};
+ghost use Rattle.cell.specs.Decide.{cell as cellOf};
 ghost use Rattle.tree.specs.Generate.{orFirst, Making, splitOf, WritesTree};
 
 // A mask with bit b set too.
