@@ -35,18 +35,11 @@ pub enum Decision {
     Test(u8),
 }
 
-// The smaller of two numbers.
-fn lesser(a: usize, b: usize) -> usize
-    ensures { λ r. ⌜ r ≡ min a b ⌝ }
-{
-    if a < b { a } else { b }
-}
-
 // What steps 1 and 2 settle of the cell, for the entries at these places.
 pub fn settle(table: &[u32], places: &[u32; 256], count: usize, fixed: u32, bits: u32) -> Verdict
     ensures { λ r. ⌜ r ≡ verdictOf (settledAt (now (table .entry)) (now (places .entry)) (min count 256) (cell fixed bits)) ⌝ }
 {
-    let n = lesser(count, 256);
+    let n = words::lesser(count, 256);
     let s = standing::statuses(table, places, n, fixed, bits);
     judging::judge(table, places, s, n)
 }
@@ -62,7 +55,7 @@ pub fn decide(
 ) -> Decision
     ensures { λ r. ⌜ r ≡ decisionOf (stepAt (now (table .entry)) (now (places .entry)) (min count 256) (min width 32) (cell fixed bits)) ⌝ }
 {
-    let n = lesser(count, 256);
+    let n = words::lesser(count, 256);
     let s = standing::statuses(table, places, n, fixed, bits);
     let verdict = judging::judge(table, places, s, n);
     match verdict {
@@ -72,7 +65,7 @@ pub fn decide(
             if !testing::any_open(s, n) {
                 return Decision::Conflict;
             }
-            let top = lesser(width as usize, 32) as u32;
+            let top = words::lesser(width as usize, 32) as u32;
             let tested = testing::bit_to_test(table, places, s, n, top, fixed, bits);
             Decision::Test(tested as u8)
         }

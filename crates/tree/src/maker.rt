@@ -6,7 +6,7 @@ use crate::Made;
 use cell::Decision;
 ghost use mathlib.Core.Path.{_≡_};
 ghost use mathlib.Core.Bool.{false};
-ghost use Prim.Native.Nat.{ℕ, _+_, _≤_, _<_, _^_, min};
+ghost use Prim.Native.Nat.{ℕ, _+_, _≤_, _<_, _^_};
 ghost use lib.Bits.{bitOr};
 ghost use lib.ListN.{length, set, replicate};
 ghost use Rattle.words.specs.Words.{bit};
@@ -141,12 +141,6 @@ fn make_node(
     }
 }
 
-fn lesser(a: usize, b: usize) -> usize
-    ensures { λ r. ⌜ r ≡ min a b ⌝ }
-{
-    if a < b { a } else { b }
-}
-
 // Sets every word of a buffer to zero.
 fn clear(out: &mut [u32])
     ensures { λ _. ⌜ now (out .exit) ≡ replicate (length (now (out .entry))) 0 ⌝ }
@@ -169,7 +163,7 @@ pub fn write_tree(
     requires { ⌜ Ready (now table) (now places) width count ⌝ }
     ensures { λ r. ⌜ WritesTree (entriesAt (now (table .entry)) count 1) width (now (out .entry)) (now (out .exit)) r ⌝ }
 {
-    let limit = lesser(out.len(), 16384);
+    let limit = words::lesser(out.len(), 16384);
     let made = make_tree(table, places, count, width, 0, 0, out, 1, limit);
     match made {
         Made::Full => {
