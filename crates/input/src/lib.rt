@@ -1,23 +1,15 @@
 // How the programs take their input apart: bytes into words, and words into requests.
 ghost use mathlib.Core.Path.{_≡_};
-ghost use Prim.Native.Nat.{min};
 ghost use Rattle.input.specs.Bytes.{isTable, Fills};
 ghost use Rattle.input.specs.Requests.{runAt, tableWordAt, tableWordRunAt, twoRunsAt, bytesAt, bytesWordAt};
 ghost use Rattle.input.specs.Requests.{readOf, lookupOf, generateOf, simulateOf, decodeOf, encodeOf, walkOf, requestAt};
-
-// The smaller of two numbers.
-fn least(a: usize, b: usize) -> usize
-    ensures { λ r. ⌜ r ≡ min a b ⌝ }
-{
-    if a < b { a } else { b }
-}
 
 // Writes the whole words of the bytes to the buffer's first words, as many as it takes, and answers
 // how many were written.
 pub fn words_of(bytes: &[u8], out: &mut [u32]) -> usize
     ensures { λ r. ⌜ Fills (now (bytes .entry)) (now (out .entry)) (now (out .exit)) r ⌝ }
 {
-    let n = least(bytes.len() / 4, out.len());
+    let n = words::lesser(bytes.len() / 4, out.len());
     let mut i = 0;
     while i < n {
         out[i] = words::word_in(bytes, i);
