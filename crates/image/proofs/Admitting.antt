@@ -84,10 +84,10 @@ module _ (ws places : List ℕ) (width count : ℕ) (r : Ready ws places width c
       let l : length image ≤ 2097152 = leb-true _ _ (and-r _ g) in
       record {
         usable =
-          record {
-            reads = record { good = r .good; wide = sym w; number = refl; each = λ k h. r .each k (omega (arith, r .number)) };
-            right = ap (λ (x : ℕ). accepts (tableOf ws .entries) x tree) (sym w) ∙ a;
-          };
+            record {
+              reads = record { good = r .good; wide = sym w; number = refl; each = λ k h. r .each k (omega (arith, r .number)) };
+              right = ap (λ (x : ℕ). accepts (tableOf ws .entries) x tree) (sym w) ∙ a;
+            };
         short = omega arith;
       }
 
@@ -161,8 +161,8 @@ module _ (ws tree image places : List ℕ) where
       record {
         answer = e;
         ready =
-          λ k. let c = chain-passed ws tree image (r .good) (sym (ap (λ (x : Refusal). saidRefusal x (tableOf ws .entries)) k) ∙ e) in
-          admits-all ws places width count r tree image (c .0) (c .1) (c .2);
+            λ k. let c = chain-passed ws tree image (r .good) (sym (ap (λ (x : Refusal). saidRefusal x (tableOf ws .entries)) k) ∙ e) in
+            admits-all ws places width count r tree image (c .0) (c .1) (c .2);
       }
 
 -- ---- a listing and a step, by what admit answers

@@ -68,7 +68,10 @@ fn word(image: &[u8], a: HalfwordAddress) -> u32
     requires { ⌜ a .0 < 2 ^ 20 ⌝ }
     ensures { λ r. ⌜ r ≡ wordAt (now (image .entry)) a ⌝ }
 {
-    both_halves(halfword(image, a), halfword(image, HalfwordAddress(a.0 + 1)))
+    both_halves(
+        halfword(image, a),
+        halfword(image, HalfwordAddress(a.0 + 1)),
+    )
 }
 
 // What a word selects, by the length of the entry: 16 bits or 32.
@@ -134,19 +137,37 @@ fn item_of(p: Picked, a: HalfwordAddress, end: u32) -> Item
     ensures { λ r. ⌜ r ≡ itemOf p a end ⌝ }
 {
     match p {
-        Picked::Nothing => Item { word: nothing_word(a), next: HalfwordAddress(a.0 + 1) },
-        Picked::Short(e) => Item { word: found_word(e, a), next: HalfwordAddress(a.0 + 1) },
+        Picked::Nothing => Item {
+            word: nothing_word(a),
+            next: HalfwordAddress(a.0 + 1),
+        },
+        Picked::Short(e) => Item {
+            word: found_word(e, a),
+            next: HalfwordAddress(a.0 + 1),
+        },
         Picked::Long(e) => {
             if end < a.0 + 2 {
-                return Item { word: cut_word(a), next: HalfwordAddress(end) };
+                return Item {
+                    word: cut_word(a),
+                    next: HalfwordAddress(end),
+                };
             }
-            Item { word: found_word(e, a), next: HalfwordAddress(a.0 + 2) }
+            Item {
+                word: found_word(e, a),
+                next: HalfwordAddress(a.0 + 2),
+            }
         }
     }
 }
 
 // The item at an address before the image's end.
-fn item_at(table: &[u32], places: &[u32; 256], tree: &[u32], image: &[u8], a: HalfwordAddress) -> Item
+fn item_at(
+    table: &[u32],
+    places: &[u32; 256],
+    tree: &[u32],
+    image: &[u8],
+    a: HalfwordAddress,
+) -> Item
     requires { ⌜ Admitted (now table) (now places) (now tree) (now image) × (a .0 < halfwords (now image)) ⌝ }
     ensures { λ r. ⌜ r ≡ itemAt (tableOf (now (table .entry)) .entries) (now (image .entry)) a ⌝ }
 {
@@ -246,7 +267,14 @@ fn tree_right(table: &[u32], tree: &[u32]) -> bool
 }
 
 // The first of 15, 16, 14 that applies, for a table without fault.
-fn first_refusal(table: &[u32], places: &[u32; 256], width: u32, count: u32, tree: &[u32], image: &[u8]) -> Refusal
+fn first_refusal(
+    table: &[u32],
+    places: &[u32; 256],
+    width: u32,
+    count: u32,
+    tree: &[u32],
+    image: &[u8],
+) -> Refusal
     requires { ⌜ Ready (now table) (now places) width count ⌝ }
     ensures { λ r. ⌜ saidRefusal r (tableOf (now (table .entry)) .entries) ≡ admitted (readTable (now (table .entry))) (now (tree .entry)) (now (image .entry)) ⌝ }
 {
@@ -314,7 +342,13 @@ pub enum Stepped {
 }
 
 // The step where nothing is refused.
-fn step_ready(table: &[u32], places: &[u32; 256], tree: &[u32], image: &[u8], at: HalfwordAddress) -> Stepped
+fn step_ready(
+    table: &[u32],
+    places: &[u32; 256],
+    tree: &[u32],
+    image: &[u8],
+    at: HalfwordAddress,
+) -> Stepped
     requires { ⌜ Admitted (now table) (now places) (now tree) (now image) ⌝ }
     ensures { λ r. ⌜ saidStep r ≡ stepFrom (result (tableOf (now (table .entry)) .entries)) (now (image .entry)) at ⌝ }
 {
