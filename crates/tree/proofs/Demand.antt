@@ -2,6 +2,7 @@
 --   `tree::generate` answers `generateOf (readTable ws) (length out)` and leaves `bufferOf (readTable ws) out` in the buffer,
 --   for all lists of words ws and out; `walker::walk` answers `walkOf words w`, and `walker::walk_bytes` the same of the words of its bytes.
 --     Right     what a walk is when it is right
+--     right-walks     a walk is right whose path is that of a tree without conflict, which tests no bit twice
 --     refused-ambiguous, ambiguous-refused, clear-generated     ambiguity, and when a tree is generated
 --     walk-right     the walks of the tree that was written
 use mathlib.Core.Path.{_≡_, refl, sym, ap, _∙_, subst}
@@ -33,13 +34,13 @@ use Rattle.tree.proofs.Theorem.{tree-right, tree-short, tree-once, tree
 use Rattle.tree.proofs.Writing.{length-nodes}
 use Rattle.tree.proofs.Paths.{sound-tree, path-whole, walk-written}
 
--- a walk of these words by w is right: it names exactly the selected entry (or nothing), tests no bit twice, and counts truly
-pub record Right (es : List Entry) (width : ℕ) (words : List ℕ) (w : ℕ) : Type 0 where
+-- a walk by w of these words, a tree of n nodes, is right: it names exactly the selected entry (or nothing), tests no bit twice, and counts truly
+pub record Right (es : List Entry) (width n : ℕ) (words : List ℕ) (w : ℕ) : Type 0 where
   -- the word is not ambiguous: it selects an entry or nothing
   pub clear : select es w ≡ ambiguous → ⊥
-  -- the bits that w's path tests, in order, and what the path names; the header's number of nodes is the tree's
+  -- the bits that w's path tests, in order, and what the path names
   pub tests : List ℕ
-  pub walks : path (size (tree es width)) words width (size (tree es width)) w 1 ≡ arrives (named (select es w)) tests
+  pub walks : path n words width n w 1 ≡ arrives (named (select es w)) tests
   -- what the walk answers
   pub answers : walkOf words w ≡ result (record { entry = named (select es w); count = length tests })
   -- it names an entry exactly when that claims the word and is more specific than every other entry that does,
@@ -62,6 +63,25 @@ named-nothing (names i) h q = absurd (let z : _≡_ {A = ℕ} 0 1 = cc in omega 
 named-nothing nothing h q = refl
 named-nothing ambiguous h q = absurd (h refl)
 
+-- a path of these tests, and the walk that answers so
+pub right-walks : (es : List Entry) (width n : ℕ) (words : List ℕ) (w : ℕ) (tests : List ℕ) → (select es w ≡ ambiguous → ⊥)
+    → path n words width n w 1 ≡ arrives (named (select es w)) tests
+    → walkOf words w ≡ result (record { entry = named (select es w); count = length tests })
+    → distinct tests ≡ true → length tests ≤ width → Right es width n words w
+right-walks es width n words w tests clear walks answers once few =
+    let selects = names-exactly es w in
+    let claimless = nothing-exactly es w in
+    record {
+      clear = clear;
+      tests = tests;
+      walks = walks;
+      answers = answers;
+      selected = λ (e : ℕ). (λ q. selects e .0 (named-entry _ e q), λ q. ap named (selects e .1 q));
+      unclaimed = (λ q. claimless .0 (named-nothing _ clear q), λ q. ap named (claimless .1 q));
+      once = once;
+      few = few;
+    }
+
 -- ---- a table that was read
 
 reading-is : (v : Check) (x t : Table) → reading v x ≡ result t → (v ≡ fine) × (x ≡ t)
@@ -69,11 +89,11 @@ reading-is fine x t e = (refl, cc)
 reading-is (fault n p) x t e = absurd (let z : _≡_ {A = ℕ} 0 1 = cc in omega arith)
 
 -- what reading has found of it
-record Sane (t : Table) : Type 0 where
-  good : goodTable (t .width) (t .entries) ≡ true
-  wide : 1 ≤ t .width
-  narrow : t .width ≤ 32
-  short : length (t .entries) ≤ 256
+pub record Sane (t : Table) : Type 0 where
+  pub good : goodTable (t .width) (t .entries) ≡ true
+  pub wide : 1 ≤ t .width
+  pub narrow : t .width ≤ 32
+  pub short : length (t .entries) ≤ 256
 
 fine-sane : (ws : List ℕ) → tableCheck ws ≡ fine → Sane (tableOf ws)
 unfolding tableCheck
@@ -86,7 +106,7 @@ fine-sane ws e =
       short = omega (arith, length-entries ws (countOf (word ws 0)) 1, first-count ws first);
     }
 
-read-sane : (ws : List ℕ) (t : Table) → readTable ws ≡ result t → Sane t
+pub read-sane : (ws : List ℕ) (t : Table) → readTable ws ≡ result t → Sane t
 read-sane ws t e = let r = reading-is (tableCheck ws) (tableOf ws) t e in subst Sane (r .1) (fine-sane ws (r .0))
 
 -- ---- what an answer of generating tells of the tree
@@ -133,39 +153,32 @@ module _ (ws out : List ℕ) (t : Table) (reads : readTable ws ≡ result t) whe
 
   -- with no conflict its words walk right, whatever words follow them
   walks-right : conflict start grown ≡ none → size grown < 65536 → (rest : List ℕ) (w : ℕ) → w < 2 ^ (t .width)
-      → Right (t .entries) (t .width) (flat ++ rest) w
+      → Right (t .entries) (t .width) (size grown) (flat ++ rest) w
   walks-right clean small rest w h =
       let good = sane .good in
       let sound = sound-tree (t .entries) (t .width) good (sane .short) in
-      let clear = tree-sound (t .entries) (t .width) good clean w in
-      let selects = names-exactly (t .entries) w in
-      let claimless = nothing-exactly (t .entries) w in
-      record {
-        clear = clear;
-        tests = asked grown w;
-        walks = rw (← (tree-right (t .entries) (t .width) good w)) (path-whole (t .width) grown rest w (sane .wide) (sane .narrow) small sound);
-        answers = rw (← (tree-right (t .entries) (t .width) good w)) (walk-written (t .width) grown rest w (sane .wide) (sane .narrow) small sound h);
-        selected = λ (e : ℕ). (λ q. selects e .0 (named-entry _ e q), λ q. ap named (selects e .1 q));
-        unclaimed = (λ q. claimless .0 (named-nothing _ clear q), λ q. ap named (claimless .1 q));
-        once = tree-once (t .entries) (t .width) good w;
-        few = tree-short (t .entries) (t .width) good w;
-      }
+      right-walks (t .entries) (t .width) (size grown) (flat ++ rest) w (asked grown w)
+      (tree-sound (t .entries) (t .width) good clean w)
+      (rw (← (tree-right (t .entries) (t .width) good w)) (path-whole (t .width) grown rest w (sane .wide) (sane .narrow) small sound))
+      (rw (← (tree-right (t .entries) (t .width) good w)) (walk-written (t .width) grown rest w (sane .wide) (sane .narrow) small sound h))
+      (tree-once (t .entries) (t .width) good w)
+      (tree-short (t .entries) (t .width) good w)
 
   module _ (n : ℕ) (generated : generateOf (readTable ws) (length out) ≡ result n) where
-    judgement : (fits grown (length out) ≡ true) × (conflict start grown ≡ none) × (size grown + 1 ≡ n)
+    pub judgement : (fits grown (length out) ≡ true) × (conflict start grown ≡ none) × (size grown + 1 ≡ n)
     judgement = judged-result grown (length out) (conflict start grown) n (sym answered ∙ generated)
 
     -- "The tree written is as many words, from the buffer's start, as generating returns"
-    buffer-is : bufferOf (readTable ws) out ≡ flat ++ drop (length flat) out
+    pub buffer-is : bufferOf (readTable ws) out ≡ flat ++ drop (length flat) out
     unfolding bufferOf leftBy
     buffer-is = let g : generateOf (result t) (length out) ≡ result n = rw reads at generated in rw (reads, g)
 
-    words-are : take n (bufferOf (readTable ws) out) ≡ flat ++ []
+    pub words-are : take n (bufferOf (readTable ws) out) ≡ flat ++ []
     unfolding written
     words-are =
         ap (take n) buffer-is ∙ take-at flat (drop (length flat) out) n (omega (arith, length-nodes grown 1, judgement .2)) ∙ sym (append-nil flat)
 
-    written-right : (rest : List ℕ) (w : ℕ) → w < 2 ^ (t .width) → Right (t .entries) (t .width) (flat ++ rest) w
+    written-right : (rest : List ℕ) (w : ℕ) → w < 2 ^ (t .width) → Right (t .entries) (t .width) (size grown) (flat ++ rest) w
     unfolding fits
     written-right = walks-right (judgement .1) (omega (arith, leb-true (size grown + 1) 16384 (and-r _ (judgement .0))))
 
@@ -199,7 +212,8 @@ module _ (ws out : List ℕ) (t : Table) (reads : readTable ws ≡ result t) whe
   -- "else every walk of the written tree names exactly the selected entry, tests no bit twice, and counts truly":
   -- in the whole buffer, and in the n words that were answered ("words lent after them change no walk")
   pub walk-right : (n : ℕ) → generateOf (readTable ws) (length out) ≡ result n → (w : ℕ) → w < 2 ^ (t .width)
-      → Right (t .entries) (t .width) (bufferOf (readTable ws) out) w × Right (t .entries) (t .width) (take n (bufferOf (readTable ws) out)) w
+      → Right (t .entries) (t .width) (size (tree (t .entries) (t .width))) (bufferOf (readTable ws) out) w
+      × Right (t .entries) (t .width) (size (tree (t .entries) (t .width))) (take n (bufferOf (readTable ws) out)) w
   walk-right n e w h = (
     rw (buffer-is ws out t reads n e) (written-right ws out t reads n e _ w h),
     rw (words-are ws out t reads n e) (written-right ws out t reads n e [] w h),

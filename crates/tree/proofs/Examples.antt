@@ -18,6 +18,7 @@ use Rattle.tree.specs.Written.{headerWord, testWord, leafWord, nodes, wr
 use Rattle.tree.specs.Generate.{fits, judged, generateOf, leftBy, bufferOf, tableWith}
 use Rattle.flat.specs.Nodes.{headerRest, headerOf, testNode, namesNode, nothingNode, nodeOf}
 use Rattle.tree.specs.Walk.{Walk, path, enters, walkOf}
+use Rattle.tree.specs.Checker.{isStepOne, isStepTwo, checkFrom, checkBelow, acceptsBy, accepts, checkOf}
 
 -- a tree and its first conflict, with every definition open
 unfoldable grown : List Entry → ℕ → Option ℕ
@@ -152,3 +153,47 @@ walk-damaged = refl
 pub walk-spare : walkOf (0x70020003 ∷ 0x80800003 ∷ 0xa0000000 ∷ 0x90000100 ∷ []) 2 ≡ refused 9 3 0
 unfolding walked
 walk-spare = refl
+
+-- ---- checking
+
+-- what the checker says of these words for the printed table, with every definition open
+unfoldable pub verdict : List ℕ → Outcome Unit
+unfolding answered walked isStepOne isStepTwo checkFrom checkBelow acceptsBy accepts checkOf
+verdict words = checkOf (readTable printed) words
+
+pub record Verdicts : Type 0 where
+  -- the printed tree, any word lent after it, and a tree that tests bit 0 first
+  pub yes : verdict printed-tree ≡ result tt
+  pub lent-after : verdict (0x70020003 ∷ 0x80800003 ∷ 0xa0000000 ∷ 0x90000000 ∷ 7 ∷ []) ≡ result tt
+  pub other-bit-first : verdict (0x70020007 ∷ 0x80000005 ∷ 0x80800004 ∷ 0xa0000000 ∷ 0x90000000 ∷ 0x80800007 ∷ 0xa0000000 ∷ 0x90000000 ∷ []) ≡ result tt
+  -- one tree against each part of the rule
+  pub header : verdict (0x70020003 ∷ 0x80800003 ∷ 0xa0000000 ∷ []) ≡ refused 14 0 0
+  pub widths : verdict (0x70030003 ∷ 0x80800003 ∷ 0xa0000000 ∷ 0x90000000 ∷ []) ≡ refused 14 0 0
+  pub damaged : verdict (0x70020003 ∷ 0x80800003 ∷ 0xa0000000 ∷ 0x90000100 ∷ []) ≡ refused 14 0 0
+  pub sides-apart : verdict (0x70020004 ∷ 0x80800004 ∷ 0xa0000000 ∷ 0xa0000000 ∷ 0x90000000 ∷ []) ≡ refused 14 0 0
+  pub left-over : verdict (0x70020004 ∷ 0x80800003 ∷ 0xa0000000 ∷ 0x90000000 ∷ 0xa0000000 ∷ []) ≡ refused 14 0 0
+  pub tested-twice : verdict (0x70020005 ∷ 0x80800003 ∷ 0xa0000000 ∷ 0x80800005 ∷ 0xa0000000 ∷ 0x90000000 ∷ []) ≡ refused 14 0 0
+  pub only-live : verdict (0x70020001 ∷ 0x90000000 ∷ []) ≡ refused 14 0 0
+  pub still-live : verdict (0x70020003 ∷ 0x80800003 ∷ 0xa0000000 ∷ 0xa0000000 ∷ []) ≡ refused 14 0 0
+
+pub verdicts : Verdicts
+unfolding verdict
+verdicts =
+    record {
+      yes = refl;
+      lent-after = refl;
+      other-bit-first = refl;
+      header = refl;
+      widths = refl;
+      damaged = refl;
+      sides-apart = refl;
+      left-over = refl;
+      tested-twice = refl;
+      only-live = refl;
+      still-live = refl;
+    }
+
+-- a table at fault comes before the tree
+pub check-empty : checkOf (readTable []) [] ≡ refused 1 0 0
+unfolding verdict
+check-empty = refl

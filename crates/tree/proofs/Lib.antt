@@ -11,3 +11,5 @@ pub mod Makers
 pub mod Generating
 pub mod Paths
 pub mod Demand
+pub mod Accepting
+pub mod Checking

@@ -64,12 +64,12 @@ pub record Fresh (width fixed : ℕ) (bs : List ℕ) : Type 0 where
   pub unfixed : (i : ℕ) → isIn i bs ≡ true → bit fixed i ≡ false
   pub once : distinct bs ≡ true
 
-fresh-none : (width fixed : ℕ) → Fresh width fixed []
+pub fresh-none : (width fixed : ℕ) → Fresh width fixed []
 unfolding isIn distinct
 fresh-none width fixed = record { below = λ i e. absurd (false≢true e); unfixed = λ i e. absurd (false≢true e); once = refl }
 
 -- an unfixed bit i, then bits that are fresh where i is fixed too
-fresh-more : (width fixed i : ℕ) (bs : List ℕ) → i < width → bit fixed i ≡ false → Fresh width (bitOr fixed (2 ^ i)) bs → Fresh width fixed (i ∷ bs)
+pub fresh-more : (width fixed i : ℕ) (bs : List ℕ) → i < width → bit fixed i ≡ false → Fresh width (bitOr fixed (2 ^ i)) bs → Fresh width fixed (i ∷ bs)
 unfolding isIn distinct
 fresh-more width fixed i bs h f r =
     record {

@@ -78,6 +78,17 @@ verdictOf (names i) = Verdict.Names i
 verdictOf nothing = Verdict.Nothing
 verdictOf ambiguous = Verdict.Stuck
 
+-- a verdict names entry e; says that there is none
+unfoldable pub isNamed : Verdict → ℕ → Bool
+isNamed (Verdict.Names i) e = eqb i e
+isNamed Verdict.Nothing e = false
+isNamed Verdict.Stuck e = false
+
+unfoldable pub isNothing : Verdict → Bool
+isNothing (Verdict.Names i) = false
+isNothing Verdict.Nothing = true
+isNothing Verdict.Stuck = false
+
 -- steps 1 and 2 by the statuses
 unfoldable pub judgeAt : List ℕ → List ℕ → List Status → ℕ → Choice
 judgeAt ws places s n = choiceOf (first (winsAt ws places s n) n) (someLive s n)

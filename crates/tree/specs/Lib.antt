@@ -4,3 +4,4 @@ pub mod Written
 pub mod Decide
 pub mod Generate
 pub mod Walk
+pub mod Checker

@@ -8,6 +8,7 @@ ghost use Rattle.table.specs.Table.{patternAt, unmatchingAt, conditionAt, condi
 ghost use Rattle.table.specs.Ready.{Ready};
 ghost use Rattle.selection.specs.Selection.{moreSpecific};
 ghost use Rattle.tree.specs.Cell.{implies, clashes, holds as holdsIn, fails as failsIn, openCondition};
+ghost use Rattle.tree.specs.Checker.{settled};
 ghost use Rattle.tree.specs.Tree.{inCondition, step};
 ghost use Rattle.tree.specs.Decide.{cell, statusOf, isLive, isSure, isOpen, Near, Stated, givesWay, beatsAt, winsAt, someLive, someOpen, verdictOf, judgeAt, openMask, Masked, votesFor, weightOf, Heaviest, inEntry, inSome, testedAt, decisionOf, Bounded};
 use super::Decision;
@@ -542,4 +543,20 @@ pub fn decide(
             Decision::Test(tested as u8)
         }
     }
+}
+
+// What steps 1 and 2 say of the cell.
+pub fn settle(
+    table: &[u32],
+    places: &[u32; 256],
+    count: usize,
+    width: u32,
+    fixed: u32,
+    bits: u32,
+) -> Verdict
+    requires { ⌜ Ready (now table) (now places) width count ⌝ }
+    ensures { λ r. ⌜ r ≡ verdictOf (settled (entriesAt (now (table .entry)) count 1) (cell fixed bits)) ⌝ }
+{
+    let s = statuses(table, places, count, fixed, bits);
+    judge(table, places, s, count)
 }

@@ -1,8 +1,11 @@
-// The tree of a table: generating it in its written form.
+// The tree of a table: generating it in its written form, and checking one that is lent.
 ghost use mathlib.Core.Path.{_≡_};
+ghost use Rattle.table.specs.Check.{readTable};
+ghost use Rattle.tree.specs.Checker.{said, checkOf};
 ghost use Rattle.tree.specs.Generate.{Generates};
 
 mod cell;
+mod checker;
 mod maker;
 
 // What an entry is in a cell.
@@ -45,6 +48,12 @@ enum Made {
     Wrote(usize, First),
 }
 
+// Where a subtree that the checker finds right ends: the index after it; or no.
+enum Ended {
+    No,
+    At(u32),
+}
+
 // What generating answers: the number of words of the tree; or why not: it does not fit (5), an ambiguous word (6),
 // or the number and place of the table's first fault (1 to 4).
 pub enum Generated {
@@ -65,6 +74,31 @@ pub fn generate(table: &[u32], out: &mut [u32]) -> Generated
         table::Answer::Refused { number, place } => Generated::Refused(number, place),
         table::Answer::Accepted { width, count } => {
             maker::write_tree(table, &places, count as usize, width, out)
+        }
+    }
+}
+
+// What the checker answers: yes; no (14); or the number and place of the table's first fault (1 to 4).
+pub enum Checked {
+    Yes,
+    No,
+    Refused(u32, u32),
+}
+
+// Whether a tree is right for a table: every word of the width walks to what it selects.
+pub fn check(table: &[u32], tree: &[u32]) -> Checked
+    ensures { λ r. ⌜ said r ≡ checkOf (readTable (now (table .entry))) (now (tree .entry)) ⌝ }
+{
+    let reading = table::read(table);
+    let answer = reading.answer;
+    let places = reading.places;
+    match answer {
+        table::Answer::Refused { number, place } => Checked::Refused(number, place),
+        table::Answer::Accepted { width, count } => {
+            if checker::accepts(table, &places, count as usize, width, tree) {
+                return Checked::Yes;
+            }
+            Checked::No
         }
     }
 }

@@ -20,7 +20,7 @@ ghost use Rattle.tree.specs.Decide.{cell as cellOf};
 ghost use Rattle.tree.specs.Generate.{orFirst, Making, splitOf, WritesTree};
 
 // A mask with bit b set too.
-fn with_bit(x: u32, b: u8) -> u32
+pub fn with_bit(x: u32, b: u8) -> u32
     requires { ⌜ b < 32 ⌝ }
     ensures { λ r. ⌜ r ≡ bitOr x (2 ^ b) ⌝ }
 {
