@@ -1,0 +1,4 @@
+pub mod Leading
+pub mod Filling
+pub mod Picking
+pub mod Admitting

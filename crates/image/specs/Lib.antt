@@ -1,0 +1,4 @@
+pub mod Address
+pub mod Items
+pub mod Listing
+pub mod Parts

@@ -1,0 +1,159 @@
+// The lister: an image of halfwords, item by item, by a table and a tree that the checker accepts for it.
+ghost use mathlib.Core.Path.{_≡_};
+ghost use Rattle.table.specs.Table.{tableOf};
+ghost use Rattle.table.specs.Check.{readTable};
+ghost use Rattle.table.specs.Outcome.{result};
+ghost use Rattle.image.specs.Address.{offsetOf};
+ghost use Rattle.image.specs.Listing.{stepFrom, stepOf, saidStep, Lists};
+ghost use Rattle.image.specs.Parts.{Admitted};
+
+mod lister;
+mod refusals;
+
+// Counts 16-bit words of the image.
+pub struct HalfwordAddress(pub u32);
+
+// Counts bytes of the image.
+pub struct ByteOffset(pub u64);
+
+// The one conversion.
+pub fn byte_offset(a: HalfwordAddress) -> ByteOffset
+    ensures { λ r. ⌜ r ≡ offsetOf a ⌝ }
+{
+    ByteOffset(2 * (a.0 as u64))
+}
+
+// What a word selects, by the length of the entry: 16 bits or 32.
+enum Picked {
+    Short(u8),
+    Long(u8),
+    Nothing,
+}
+
+// An item's word, and the address after it.
+struct Item {
+    pub word: u32,
+    pub next: HalfwordAddress,
+}
+
+// What refuses a listing and a step alike.
+enum Refusal {
+    Ready,
+    BadTable,
+    BadImage,
+    BadTree,
+    Refused(u32, u32),
+}
+
+// What refuses, and beside it the place of each entry of a table without fault.
+struct Admission {
+    pub refusal: Refusal,
+    pub places: [u32; 256],
+}
+
+// What a whole listing answers: the number of items; or why not: more items than the buffer takes, with the address of the first left
+// out (17), the table (15), the image (16), the tree (14), or the number and place of the table's first fault (1 to 4).
+pub enum Listed {
+    Items(u32),
+    Full(HalfwordAddress),
+    BadTable,
+    BadImage,
+    BadTree,
+    Refused(u32, u32),
+}
+
+// Lists a whole image into the buffer.
+pub fn list(table: &[u32], tree: &[u32], image: &[u8], out: &mut [u32]) -> Listed
+    ensures { λ r. ⌜ Lists (now (table .entry)) (now (tree .entry)) (now (image .entry)) (now (out .entry)) (now (out .exit)) r ⌝ }
+{
+    let admission = refusals::admit(table, tree, image);
+    let refusal = admission.refusal;
+    let places = admission.places;
+    match refusal {
+        Refusal::BadTable => Listed::BadTable,
+        Refusal::BadImage => Listed::BadImage,
+        Refusal::BadTree => Listed::BadTree,
+        Refusal::Refused(number, place) => Listed::Refused(number, place),
+        Refusal::Ready => lister::fill(table, &places, tree, image, out),
+    }
+}
+
+// What a step answers: the item's word and the address after it, or the end; or why not, as a listing does but for 17.
+pub enum Stepped {
+    Item(u32, HalfwordAddress),
+    End,
+    BadTable,
+    BadImage,
+    BadTree,
+    Refused(u32, u32),
+}
+
+// The step where nothing is refused.
+fn step_ready(
+    table: &[u32],
+    places: &[u32; 256],
+    tree: &[u32],
+    image: &[u8],
+    at: HalfwordAddress,
+) -> Stepped
+    requires { ⌜ Admitted (now table) (now places) (now tree) (now image) ⌝ }
+    ensures { λ r. ⌜ saidStep r ≡ stepFrom (result (tableOf (now (table .entry)) .entries)) (now (image .entry)) at ⌝ }
+{
+    let end = (image.len() / 2) as u32;
+    if end <= at.0 {
+        return Stepped::End;
+    }
+    let item = lister::item_at(table, places, tree, image, at);
+    let next = item.next;
+    Stepped::Item(item.word, next)
+}
+
+// The step at an address.
+fn step_at(image: &[u8], at: HalfwordAddress, table: &[u32], tree: &[u32]) -> Stepped
+    ensures { λ r. ⌜ saidStep r ≡ stepOf (readTable (now (table .entry))) (now (tree .entry)) (now (image .entry)) at ⌝ }
+{
+    let admission = refusals::admit(table, tree, image);
+    let refusal = admission.refusal;
+    let places = admission.places;
+    match refusal {
+        Refusal::BadTable => Stepped::BadTable,
+        Refusal::BadImage => Stepped::BadImage,
+        Refusal::BadTree => Stepped::BadTree,
+        Refusal::Refused(number, place) => Stepped::Refused(number, place),
+        Refusal::Ready => step_ready(table, &places, tree, image, at),
+    }
+}
+
+// A cursor over an image: its slice and an address.
+pub struct Cursor<'a> {
+    pub image: &'a [u8],
+    pub at: HalfwordAddress,
+}
+
+// The cursor of an image, at an address.
+pub fn cursor_at<'a>(image: &'a [u8], at: HalfwordAddress) -> Cursor<'a>
+    ensures { λ r. ⌜ (r .image ≡ image .entry) × (r .at ≡ at) ⌝ }
+{
+    Cursor { image, at }
+}
+
+// The cursor at another address of the same image.
+pub fn moved<'a>(c: Cursor<'a>, at: HalfwordAddress) -> Cursor<'a>
+    ensures { λ r. ⌜ (r .image ≡ c .entry .image) × (r .at ≡ at) ⌝ }
+{
+    Cursor { image: c.image, at }
+}
+
+// The step at the cursor.
+pub fn next_item<'a, 'b, 'c>(c: Cursor<'a>, table: &'b [u32], tree: &'c [u32]) -> Stepped
+    ensures { λ r. ⌜ saidStep r ≡ stepOf (readTable (now (table .entry))) (now (tree .entry)) (now (c .entry .image)) (c .entry .at) ⌝ }
+{
+    step_at(c.image, c.at, table, tree)
+}
+
+// One step, at an address of an image.
+pub fn step(table: &[u32], tree: &[u32], image: &[u8], at: HalfwordAddress) -> Stepped
+    ensures { λ r. ⌜ saidStep r ≡ stepOf (readTable (now (table .entry))) (now (tree .entry)) (now (image .entry)) at ⌝ }
+{
+    next_item(cursor_at(image, at), table, tree)
+}

@@ -1,0 +1,173 @@
+// The items of an image: the word at an address, what it selects, the item that this makes, and all items in a row.
+use crate::ByteOffset;
+use crate::HalfwordAddress;
+use crate::Item;
+use crate::Listed;
+use crate::Picked;
+use crate::byte_offset;
+use walker::Walked;
+ghost use mathlib.Core.Path.{_≡_};
+ghost use Prim.Native.Nat.{_+_, _*_, _^_, _≤_, _<_};
+ghost use lib.ListN.{getD};
+ghost use Rattle.table.specs.Table.{tableOf};
+ghost use Rattle.image.specs.Address.{halfwordAt, wordAt, halfwords};
+ghost use Rattle.image.specs.Items.{picked, foundWord, nothingWord, cutWord, itemOf, itemAt, items};
+ghost use Rattle.image.specs.Parts.{Usable, Admitted, Fills};
+
+// The byte at an offset; zero past the end.
+fn byte_at(image: &[u8], o: ByteOffset) -> u8
+    ensures { λ r. ⌜ r ≡ getD (now (image .entry)) (o .0) 0 ⌝ }
+{
+    let i = o.0 as usize;
+    if image.len() <= i {
+        return 0;
+    }
+    image[i]
+}
+
+// The halfword of two bytes.
+fn joined(low: u8, high: u8) -> u16
+    ensures { λ r. ⌜ r ≡ low + 2 ^ 8 * high ⌝ }
+{
+    (low as u16) | ((high as u16) << 8)
+}
+
+// The halfword at an address.
+fn halfword(image: &[u8], a: HalfwordAddress) -> u16
+    ensures { λ r. ⌜ r ≡ halfwordAt (now (image .entry)) a ⌝ }
+{
+    let o = byte_offset(a);
+    joined(byte_at(image, o), byte_at(image, ByteOffset(o.0 + 1)))
+}
+
+// The word of two halfwords.
+fn both_halves(upper: u16, lower: u16) -> u32
+    ensures { λ r. ⌜ r ≡ 2 ^ 16 * upper + lower ⌝ }
+{
+    (lower as u32) | ((upper as u32) << 16)
+}
+
+// The word at an address.
+fn word(image: &[u8], a: HalfwordAddress) -> u32
+    requires { ⌜ a .0 < 2 ^ 20 ⌝ }
+    ensures { λ r. ⌜ r ≡ wordAt (now (image .entry)) a ⌝ }
+{
+    both_halves(
+        halfword(image, a),
+        halfword(image, HalfwordAddress(a.0 + 1)),
+    )
+}
+
+// What a word selects. An accepted tree refuses no word, so that the last three cases are never met.
+fn pick(table: &[u32], places: &[u32; 256], tree: &[u32], w: u32) -> Picked
+    requires { ⌜ Usable (now table) (now places) (now tree) ⌝ }
+    ensures { λ r. ⌜ r ≡ picked (tableOf (now (table .entry)) .entries) w ⌝ }
+{
+    match walker::walk(tree, w) {
+        Walked::Entry(e, _) => {
+            let head = words::word_at(table, places[e as usize] as usize);
+            if words::part(head, 8, 8) == 16 {
+                return Picked::Short(e as u8);
+            }
+            Picked::Long(e as u8)
+        }
+        Walked::Nothing(_) => Picked::Nothing,
+        Walked::BadTree => Picked::Nothing,
+        Walked::TooWide => Picked::Nothing,
+        Walked::Damaged(_) => Picked::Nothing,
+    }
+}
+
+// Kind 12: an entry.
+fn found_word(e: u8, a: HalfwordAddress) -> u32
+    requires { ⌜ a .0 < 2 ^ 20 ⌝ }
+    ensures { λ r. ⌜ r ≡ foundWord e a ⌝ }
+{
+    (a.0 | ((e as u32) << 20)) | (12 << 28)
+}
+
+// Kind 13: nothing.
+fn nothing_word(a: HalfwordAddress) -> u32
+    requires { ⌜ a .0 < 2 ^ 20 ⌝ }
+    ensures { λ r. ⌜ r ≡ nothingWord a ⌝ }
+{
+    a.0 | (13 << 28)
+}
+
+// Kind 14: a 32-bit entry that lacks its second half.
+fn cut_word(a: HalfwordAddress) -> u32
+    requires { ⌜ a .0 < 2 ^ 20 ⌝ }
+    ensures { λ r. ⌜ r ≡ cutWord a ⌝ }
+{
+    a.0 | (14 << 28)
+}
+
+// The item of what is selected at an address of an image that ends at end.
+fn item_of(p: Picked, a: HalfwordAddress, end: u32) -> Item
+    requires { ⌜ (a .0 < end) × (end ≤ 2 ^ 20) ⌝ }
+    ensures { λ r. ⌜ r ≡ itemOf p a end ⌝ }
+{
+    match p {
+        Picked::Nothing => Item {
+            word: nothing_word(a),
+            next: HalfwordAddress(a.0 + 1),
+        },
+        Picked::Short(e) => Item {
+            word: found_word(e, a),
+            next: HalfwordAddress(a.0 + 1),
+        },
+        Picked::Long(e) => {
+            if end < a.0 + 2 {
+                return Item {
+                    word: cut_word(a),
+                    next: HalfwordAddress(end),
+                };
+            }
+            Item {
+                word: found_word(e, a),
+                next: HalfwordAddress(a.0 + 2),
+            }
+        }
+    }
+}
+
+// The item at an address before the image's end.
+pub fn item_at(
+    table: &[u32],
+    places: &[u32; 256],
+    tree: &[u32],
+    image: &[u8],
+    a: HalfwordAddress,
+) -> Item
+    requires { ⌜ Admitted (now table) (now places) (now tree) (now image) × (a .0 < halfwords (now image)) ⌝ }
+    ensures { λ r. ⌜ r ≡ itemAt (tableOf (now (table .entry)) .entries) (now (image .entry)) a ⌝ }
+{
+    let end = (image.len() / 2) as u32;
+    item_of(pick(table, places, tree, word(image, a)), a, end)
+}
+
+// Lists the image from its start into the buffer.
+pub fn fill(
+    table: &[u32],
+    places: &[u32; 256],
+    tree: &[u32],
+    image: &[u8],
+    out: &mut [u32],
+) -> Listed
+    requires { ⌜ Admitted (now table) (now places) (now tree) (now image) ⌝ }
+    ensures { λ r. ⌜ Fills (items (tableOf (now (table .entry)) .entries) (now (image .entry))) (now (out .entry)) (now (out .exit)) r ⌝ }
+{
+    let end = (image.len() / 2) as u32;
+    let mut at = HalfwordAddress(0);
+    let mut n: usize = 0;
+    while at.0 < end {
+        if out.len() <= n {
+            return Listed::Full(at);
+        }
+        let item = item_at(table, places, tree, image, at);
+        out[n] = item.word;
+        at = item.next;
+        n += 1;
+    }
+    Listed::Items(n as u32)
+}
