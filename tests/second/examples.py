@@ -517,6 +517,7 @@ CHECK_EXAMPLES = [
     ("a gap before the one side", check(PRINTED, "70020004 80800004 a0000000 a0000000 90000000"), SAYS_NO),
     # All nodes are used.
     ("a nothing more said", check(PRINTED, "70020004 80800003 a0000000 90000000 a0000000"), SAYS_NO),
+    ("no entries, a nothing more said", check([0x10000020], "70200002 a0000000 a0000000"), SAYS_NO),
     ("the same nothing only lent", check(PRINTED, "70020003 80800003 a0000000 90000000 a0000000"), ACCEPTED),
     # No path tests a bit twice. The leaves are right for the last test of bit 1.
     ("bit 1 twice", check(PRINTED, "70020005 80800005 80800004 a0000000 90000000 90000000"), SAYS_NO),
