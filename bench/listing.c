@@ -40,7 +40,7 @@ static void stop(const char *why) {
 
 /* ------------------------------------------------------------------------- the walk of document 01 */
 
-#define DAMAGED 0x200u
+#define WRONG_WALK 0x200u
 #define NOTHING 0x100u
 
 /* "tree header: length 0, kind, spare bit, width not 1-32, no nodes, more nodes than words after it" */
@@ -50,25 +50,28 @@ static int header_good(const uint32_t *tree, size_t words) {
     return width >= 1 && width <= 32 && nodes >= 1 && nodes <= words - 1;
 }
 
-/* The entry, NOTHING or DAMAGED. "A path node is damaged if its kind is not 8-10, a spare bit is set, the tested bit is at or
- * above the width, or the one side's index is below its own + 2 or above the number of nodes." */
-static uint32_t walk(const uint32_t *restrict tree, uint32_t word) {
+/* The entry, NOTHING or, for 8, 7 and 9, WRONG_WALK. The header is looked at in each walk, as "Walking: 8, 7, 9" has it.
+ * "A path node is damaged if its kind is not 8-10, a spare bit is set, the tested bit is at or above the width, or the one
+ * side's index is below its own + 2 or above the number of nodes." */
+static uint32_t walk(const uint32_t *restrict tree, size_t words, uint32_t word) {
+    if (!header_good(tree, words)) return WRONG_WALK;
     uint32_t width = tree[0] >> 16 & 63, nodes = tree[0] & 0xffff, index = 1;
+    if (width < 32 && word >> width != 0) return WRONG_WALK;
     for (;;) {
         uint32_t node = tree[index];
         switch (node >> 28) {
         case 8: {
             uint32_t bit = node >> 23 & 31, one_side = node & 0xffff;
-            if ((node >> 16 & 0x7f) != 0 || bit >= width || one_side < index + 2 || one_side > nodes) return DAMAGED;
+            if ((node >> 16 & 0x7f) != 0 || bit >= width || one_side < index + 2 || one_side > nodes) return WRONG_WALK;
             index = (word >> bit & 1) == 0 ? index + 1 : one_side;
             break;
         }
         case 9:
-            return (node & 0x0fffff00) != 0 ? DAMAGED : node & 0xff;
+            return (node & 0x0fffff00) != 0 ? WRONG_WALK : node & 0xff;
         case 10:
-            return (node & 0x0fffffff) != 0 ? DAMAGED : NOTHING;
+            return (node & 0x0fffffff) != 0 ? WRONG_WALK : NOTHING;
         default:
-            return DAMAGED;
+            return WRONG_WALK;
         }
     }
 }
@@ -86,12 +89,11 @@ static uint32_t halfword(const uint8_t *image, size_t address) {
 static size_t list_in_c(const uint32_t *restrict tree, size_t tree_words, const uint8_t *restrict lengths,
                         const uint8_t *restrict image, size_t image_bytes, uint32_t *restrict buffer, size_t room) {
     size_t halves = image_bytes / 2, address = 0, items = 0;
-    if (!header_good(tree, tree_words)) return REFUSED;
     while (address < halves) {
         /* "a missing lower half reads as zero" */
         uint32_t lower = address + 1 < halves ? halfword(image, address + 1) : 0;
-        uint32_t named = walk(tree, halfword(image, address) << 16 | lower);
-        if (named == DAMAGED || items == room) return REFUSED;
+        uint32_t named = walk(tree, tree_words, halfword(image, address) << 16 | lower);
+        if (named == WRONG_WALK || items == room) return REFUSED;
         if (named == NOTHING) {
             buffer[items++] = 13u << 28 | (uint32_t)address;
             address += 1;

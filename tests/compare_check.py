@@ -113,6 +113,8 @@ def altered_everywhere(rng, one):
     for index in range(1, len(one.tree)):
         for what, changed in trees.altered_nodes(rng, one.tree, index):
             yield "altered " + what, changed
+    for changed in checktrees.leaves_changed(one.shape, len(one.plan.entries)):
+        yield "leaf changed", checktrees.written(one.plan.width, changed)
     for changed in checktrees.nodes_swapped(one.tree):
         yield "nodes swapped", changed
     for what, changed in trees.altered_headers(rng, one.tree):

@@ -166,12 +166,12 @@ def hand_written():
 
 def long_images(rng):
     """Addresses of more than sixteen bits, as many as an input of probe holds (1,048,576 bytes with the buffer)."""
-    for lengths, count in (((16,), 165000), ((32,), 240000), ((16, 32), 165000)):
+    for lengths in ((16,), (32,), (16, 32)):
         one = ready_tables(rng, lambda rng: images.image_plan(rng, 6, 0.4, lengths), 1)[0]
-        image = images.long_image(rng, one.plan, count)
-        room = (probe.MOST_BYTES - len(image)) // 4 - len(one.words) - len(one.tree) - 10
+        # 170,000 halfwords leave room for as many items.
+        image = images.long_image(rng, one.plan, 170000)
         items = items_in(("list", one.words, one.tree, image, []))
-        asked = [("list, long", ("list", one.words, one.tree, image, marks(min(length, room))))
+        asked = [("list, long", ("list", one.words, one.tree, image, marks(length)))
                  for length in (items, items - 1, items + 7, 70000)]
         image = images.long_image(rng, one.plan, 520000)
         for address in (65535, 65536, 131071, 262143, 262144, 519998, 519999, 520000, 524288 + 5):
@@ -261,7 +261,7 @@ LEAST = {
     "list, kind 12": 200000, "list, kind 13": 50000, "list, kind 14": 700, "list, words left unchanged": 5000,
     "list, exact: 0": 1500, "list, longer: 0": 1500, "list, empty: 0": 300, "list, empty: 17": 1200,
     "list, one short: 17": 1200, "list, some: 17": 1200, "list, long: 0": 6, "list, long: 17": 6, "step, long: 0": 27,
-    "17 beyond sixteen bits": 6, "letters: 0": 80, **{f"list, entry {number:02x}": 8 for number in range(256)},
+    "17 beyond sixteen bits": 6, "letters: 0": 80, **{f"list, entry {number:02x}": 2 for number in range(256)},
     "15: 15": 800, "15 before 16: 15": 800, "15 before 16 and 14: 15": 800, "16 before 14: 16": 400,
     "wrong tree: 14": 2000, "odd: 16": 2000, "empty: 0": 2000, "steps followed": 200,
 }
