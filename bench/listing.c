@@ -313,8 +313,9 @@ int main(int arguments, char **argument) {
     double c_taken[REPEATS], proved_taken[REPEATS], setup_taken[REPEATS];
     for (int turn = 0; turn < REPEATS; turn++) {
         double before = seconds();
-        if (list_in_c(tree.at, tree.count, lengths, image.at, image.count, in_c, room) != items) stop("the C side changed its mind");
+        size_t again = list_in_c(tree.at, tree.count, lengths, image.at, image.count, in_c, room);
         c_taken[turn] = seconds() - before;
+        if (again != items) stop("the C side changed its mind");
 #ifdef KILNUMBER_LIST
         before = seconds();
         struct listed listed = proved_list(table_bytes, tree_bytes, image.at, image.count, proved, room);

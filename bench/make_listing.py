@@ -1,9 +1,9 @@
 """Makes what listing.c reads. Usage: make_listing.py table              writes the table (bench/listing.table is made so)
                                     make_listing.py table tree image start  reads the table, writes the others
 
-The table: width 32, entries of 16 and 32 bits, some with conditions. The tree is the second implementation's. The image: 2,097,152
-bytes of instructions of all entries with random fields, and a few random halfwords. `start`: how many bytes of the image, and
-the items that the second implementation lists in them.
+The table: width 32, entries of 16 and 32 bits, some with conditions. The tree is the second implementation's. The image:
+2,097,152 bytes of instructions of all entries with random fields, and a few random halfwords. `start`: how many bytes of
+the image, and the items that the second implementation lists in them.
 """
 
 import random

@@ -212,8 +212,8 @@ def all_cases(rng):
         yield "by hand", words, tree
     accepted, ambiguous = make_tables(rng)
     for source in (generated_trees(rng, accepted), other_trees(rng, accepted), large_trees(rng), altered_trees(rng, accepted),
-                   trees_missing_one_part(rng, accepted), altered_large_trees(rng, accepted), altered_other_trees(rng, accepted), foreign_trees(rng, accepted),
-                   ambiguous_tables(rng, ambiguous), refused_tables(rng, accepted)):
+                   trees_missing_one_part(rng, accepted), altered_large_trees(rng, accepted), altered_other_trees(rng, accepted),
+                   foreign_trees(rng, accepted), ambiguous_tables(rng, ambiguous), refused_tables(rng, accepted)):
         yield from source
 
 

@@ -28,7 +28,8 @@ QUESTIONS = [
     ("step", IMAGE_TABLE, IMAGE_TREE, IMAGE, 2), ("step", IMAGE_TABLE, IMAGE_TREE, IMAGE, 0xFFFFFFFF),
     ("step", IMAGE_TABLE, [], IMAGE[:4], 0), ("step", IMAGE_TABLE, IMAGE_TREE, IMAGE[:5], 0), ("step", [], [], b"", 0),
     ("list", IMAGE_TABLE, IMAGE_TREE, IMAGE, EIGHT[:4]), ("list", IMAGE_TABLE, IMAGE_TREE, IMAGE[:4], EIGHT[:1]),
-    ("list", IMAGE_TABLE, IMAGE_TREE, IMAGE[:3], EIGHT[:2]), ("list", IMAGE_TABLE, IMAGE_TREE, b"", []), ("list", [], [], b"", []),
+    ("list", IMAGE_TABLE, IMAGE_TREE, IMAGE[:3], EIGHT[:2]), ("list", IMAGE_TABLE, IMAGE_TREE, b"", []),
+    ("list", [], [], b"", []),
 ]
 TOO_LARGE = (6, 7, 0x100, 262144, 0x3FFFFFFF, 0x40000000, 0x40000005, 0x7FFFFFFF, 0x80000000, 0xFFFFFFFA, 0xFFFFFFFB,
              0xFFFFFFFC, 0xFFFFFFFD, 0xFFFFFFFE, 0xFFFFFFFF)

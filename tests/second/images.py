@@ -8,7 +8,6 @@ import struct
 from second import tables
 
 WIDTH = 32
-UPPER_HALF = 0xFFFF0000
 
 
 # ---------------------------------------------------------------------------- tables
