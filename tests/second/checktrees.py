@@ -182,7 +182,8 @@ def collapsed(shape):
     another one in the larger cell."""
     for at, part in enumerate(parts_of(shape)):
         if part[0] == "test":
-            for leaf in {one for one in parts_of(part) if one[0] != "test"}:
+            # Not a set: its order would differ from run to run.
+            for leaf in dict.fromkeys(one for one in parts_of(part) if one[0] != "test"):
                 yield replaced(shape, at, lambda _, leaf=leaf: leaf)
 
 
