@@ -1,7 +1,7 @@
 -- Laws of runs and requests. Assumes nothing.
 use Prim.Native.Nat.{ℕ, _+_, _*_, _/_, _≤_, _<_}
 use mathlib.Core.Bool.{Bool, true, false}
-use mathlib.Core.Path.{_≡_, refl, sym, ap, subst}
+use mathlib.Core.Path.{_≡_, refl, sym, ap, _∙_, subst}
 use mathlib.Core.List.{List}
 use native.Mathlib.Omega.{arith}
 use lib.Dec.{leb, ltb, eqb}
@@ -9,7 +9,8 @@ use lib.ListN.{length, getD, List·getD-eq-default}
 use borrow.Author.Tests.{le-leb, lt-leb, leb-true, lt-ltb, le-ltb, ltb-true, ne-eqb}
 use Rattle.input.specs.Requests.{runAt, wordAfter, tableWordAt, withRun, runAfter, tableWordRunAt}
 use Rattle.input.specs.Requests.{pairOf, secondAfter, twoRunsAt, bytesAt, wordAfterBytes, bytesWordAt}
-use Rattle.input.specs.Requests.{readOf, lookupOf, generateOf, simulateOf, decodeOf, encodeOf, walkOf, requestOf, requestAt}
+use Rattle.input.specs.Requests.{withImageWord, imageWordAfter, imageWordAt, withImageRun, imageRunAfter, imageRunOf, imageRunAt}
+use Rattle.input.specs.Requests.{readOf, lookupOf, generateOf, simulateOf, decodeOf, encodeOf, checkOf, stepOf, listOf, walkOf, requestOf, requestAt}
 use Rattle.input.specs.declared.Part.{Part}
 use Rattle.input.specs.declared.Run.{Run}
 use Rattle.input.specs.declared.Run.the-variants as run
@@ -23,8 +24,12 @@ use Rattle.input.specs.declared.Bytes.{Bytes}
 use Rattle.input.specs.declared.Bytes.the-variants as bytes
 use Rattle.input.specs.declared.BytesWord.{BytesWord}
 use Rattle.input.specs.declared.BytesWord.the-variants as octets
+use Rattle.input.specs.declared.ImageWord.{ImageWord}
+use Rattle.input.specs.declared.ImageWord.the-variants as stepped
+use Rattle.input.specs.declared.ImageRun.{ImageRun}
+use Rattle.input.specs.declared.ImageRun.the-variants as listed
 use Rattle.input.specs.declared.Request.{Request}
-use Rattle.input.specs.declared.Request.the-variants.{Read, Lookup, Generate, Simulate, Decode, Encode, Walk, Stopped}
+use Rattle.input.specs.declared.Request.the-variants.{Read, Lookup, Generate, Simulate, Decode, Encode, Check, Step, Items, Walk, Stopped}
 
 -- by cases on a test
 cases : {G : Type 0} (b : Bool) → (b ≡ true → G) → (b ≡ false → G) → G
@@ -98,6 +103,30 @@ module _ (ws : List ℕ) (at : ℕ) where
   unfolding bytesWordAt wordAfterBytes
   bytes-word-whole {part} {next} e h = rw (e, lt-ltb next (length ws) h)
 
+  -- an image and a word may follow two runs
+  pub no-runs-word : twoRunsAt ws at ≡ runs.Short → stepped.Short ≡ imageWordAt ws at
+  unfolding imageWordAt imageWordAfter
+  no-runs-word e = rw e
+
+  pub image-word-of : {table tree : Part} {r : BytesWord} → twoRunsAt ws at ≡ runs.Whole table tree → bytesWordAt ws (tree .after) ≡ r
+      → withImageWord table tree r ≡ imageWordAt ws at
+  unfolding imageWordAt imageWordAfter
+  image-word-of e h = rw (e, h)
+
+  -- or an image and a run
+  pub no-runs-run : twoRunsAt ws at ≡ runs.Short → listed.Short ≡ imageRunAt ws at
+  unfolding imageRunAt imageRunOf
+  no-runs-run e = rw e
+
+  pub no-image : {table tree : Part} → twoRunsAt ws at ≡ runs.Whole table tree → bytesAt ws (tree .after) ≡ bytes.Short → listed.Short ≡ imageRunAt ws at
+  unfolding imageRunAt imageRunOf imageRunAfter
+  no-image e h = rw (e, h)
+
+  pub image-run-of : {table tree image : Part} {next : ℕ} {r : ImageRun} → twoRunsAt ws at ≡ runs.Whole table tree → bytesAt ws (tree .after) ≡ bytes.Whole image next
+      → r ≡ withImageRun table tree image (runAt ws next) → r ≡ imageRunAt ws at
+  unfolding imageRunAt imageRunOf imageRunAfter
+  image-run-of e h q = q ∙ rw (e, h)
+
   -- past the end nothing is asked
   pub request-past : length ws ≤ at → Stopped ≡ requestAt ws at
   unfolding requestAt requestOf
@@ -109,10 +138,10 @@ module _ (ws : List ℕ) (at : ℕ) where
   request-known h = ap (λ (n : ℕ). requestOf n ws (at + 1)) (sym h)
 
   pub request-unknown : (getD ws at 0 ≡ 1 → ⊥) → (getD ws at 0 ≡ 2 → ⊥) → (getD ws at 0 ≡ 3 → ⊥) → (getD ws at 0 ≡ 4 → ⊥)
-      → (getD ws at 0 ≡ 5 → ⊥) → (getD ws at 0 ≡ 6 → ⊥) → (getD ws at 0 ≡ 10 → ⊥)
+      → (getD ws at 0 ≡ 5 → ⊥) → (getD ws at 0 ≡ 6 → ⊥) → (getD ws at 0 ≡ 7 → ⊥) → (getD ws at 0 ≡ 8 → ⊥) → (getD ws at 0 ≡ 9 → ⊥) → (getD ws at 0 ≡ 10 → ⊥)
       → Stopped ≡ requestAt ws at
   unfolding requestAt requestOf
-  request-unknown a b c d e f g =
+  request-unknown a b c d e f g h i j =
       rw (
         ne-eqb (getD ws at 0) 1 a,
         ne-eqb (getD ws at 0) 2 b,
@@ -120,7 +149,10 @@ module _ (ws : List ℕ) (at : ℕ) where
         ne-eqb (getD ws at 0) 4 d,
         ne-eqb (getD ws at 0) 5 e,
         ne-eqb (getD ws at 0) 6 f,
-        ne-eqb (getD ws at 0) 10 g,
+        ne-eqb (getD ws at 0) 7 g,
+        ne-eqb (getD ws at 0) 8 h,
+        ne-eqb (getD ws at 0) 9 i,
+        ne-eqb (getD ws at 0) 10 j,
       )
 
 -- a run's words lie within all words, past an index
@@ -153,6 +185,11 @@ pub record BytesLie (ws : List ℕ) (at : ℕ) (part : Part) (next : ℕ) : Type
   pub past : at < next
   pub reach : next ≤ length ws
 
+-- bytes that lie within all words
+pub record Spans (ws : List ℕ) (part : Part) : Type 0 where
+  pub order : part .first ≤ part .after
+  pub inside : part .after ≤ length ws * 4
+
 unfoldable BytesWithin : List ℕ → ℕ → Bytes → Type 0
 BytesWithin ws at (bytes.Whole part next) = BytesLie ws at part next
 BytesWithin ws at bytes.Short = Unit {0}
@@ -161,6 +198,14 @@ unfoldable OctetsWithin : List ℕ → ℕ → BytesWord → Type 0
 OctetsWithin ws at (octets.Whole part word next) = BytesLie ws at part next
 OctetsWithin ws at octets.Short = Unit {0}
 
+unfoldable ImageWordWithin : List ℕ → ℕ → ImageWord → Type 0
+ImageWordWithin ws at (stepped.Whole table tree image word next) = Lies ws at table × Lies ws at tree × BytesLie ws at image next
+ImageWordWithin ws at stepped.Short = Unit {0}
+
+unfoldable ImageRunWithin : List ℕ → ℕ → ImageRun → Type 0
+ImageRunWithin ws at (listed.Whole table tree image last) = Lies ws at table × Lies ws at tree × Spans ws image × Lies ws at last
+ImageRunWithin ws at listed.Short = Unit {0}
+
 unfoldable Within : List ℕ → ℕ → Request → Type 0
 Within ws at (Read table) = Lies ws at table
 Within ws at (Lookup table word) = Lies ws at table × (table .after < length ws)
@@ -168,6 +213,9 @@ Within ws at (Generate table buffer) = Lies ws at table × Lies ws at buffer
 Within ws at (Simulate tree word next) = BytesLie ws at tree next
 Within ws at (Decode table word buffer) = Lies ws at table × Lies ws (table .after) buffer
 Within ws at (Encode table entry values) = Lies ws at table × Lies ws (table .after) values
+Within ws at (Check table tree) = Lies ws at table × Lies ws at tree
+Within ws at (Step table tree image address next) = Lies ws at table × Lies ws at tree × BytesLie ws at image next
+Within ws at (Items table tree image buffer) = Lies ws at table × Lies ws at tree × Spans ws image × Lies ws at buffer
 Within ws at (Walk tree word) = Lies ws at tree × (tree .after < length ws)
 Within ws at Stopped = Unit {0}
 
@@ -248,6 +296,56 @@ octets-within : (ws : List ℕ) (at : ℕ) → OctetsWithin ws at (bytesWordAt w
 unfolding bytesWordAt
 octets-within ws at = octets-of-within ws at (bytesAt ws at) (bytes-within ws at)
 
+-- bytes that lie past an index lie past an earlier one; so do runs after them
+sooner-bytes : {ws : List ℕ} {at i : ℕ} {part : Part} {next : ℕ} → at < i → BytesLie ws i part next → BytesLie ws at part next
+sooner-bytes h w = record { order = w .order; inside = w .inside; past = omega (arith, w .past); reach = w .reach }
+
+past-run : {ws : List ℕ} {at : ℕ} {part : Part} → Lies ws at part → at < part .after
+past-run l = omega (arith, l .past, l .order)
+
+sooner-run : {ws : List ℕ} {at i : ℕ} {part : Part} → at < i → Lies ws i part → Lies ws at part
+sooner-run h l = record { past = omega (arith, l .past); order = l .order; inside = l .inside }
+
+with-image-word-within : (ws : List ℕ) (at : ℕ) (table tree : Part) (r : BytesWord) → Lies ws at table → Lies ws at tree → OctetsWithin ws (tree .after) r
+    → ImageWordWithin ws at (withImageWord table tree r)
+unfolding OctetsWithin ImageWordWithin withImageWord
+with-image-word-within ws at table tree (octets.Whole image word next) l m w = (l, m, sooner-bytes (past-run m) w)
+with-image-word-within ws at table tree octets.Short l m w = tt
+
+image-word-after-within : (ws : List ℕ) (at : ℕ) (r : TwoRuns) → RunsWithin ws at r → ImageWordWithin ws at (imageWordAfter ws r)
+unfolding RunsWithin ImageWordWithin imageWordAfter
+image-word-after-within ws at (runs.Whole table tree) w =
+    with-image-word-within ws at table tree (bytesWordAt ws (tree .after)) (w .0) (w .1) (octets-within ws (tree .after))
+image-word-after-within ws at runs.Short w = tt
+
+image-word-within : (ws : List ℕ) (at : ℕ) → ImageWordWithin ws at (imageWordAt ws at)
+unfolding imageWordAt
+image-word-within ws at = image-word-after-within ws at (twoRunsAt ws at) (runs-within ws at)
+
+with-image-run-within : (ws : List ℕ) (at next : ℕ) (table tree image : Part) (r : Run) → Lies ws at table → Lies ws at tree → BytesLie ws at image next → RunWithin ws next r
+    → ImageRunWithin ws at (withImageRun table tree image r)
+unfolding RunWithin ImageRunWithin withImageRun
+with-image-run-within ws at next table tree image (run.Whole last) l m b w =
+    (l, m, record { order = b .order; inside = b .inside }, sooner-run (b .past) w)
+with-image-run-within ws at next table tree image run.Short l m b w = tt
+
+image-run-after-within : (ws : List ℕ) (at : ℕ) (table tree : Part) (r : Bytes) → Lies ws at table → Lies ws at tree → BytesWithin ws (tree .after) r
+    → ImageRunWithin ws at (imageRunAfter ws table tree r)
+unfolding BytesWithin ImageRunWithin imageRunAfter
+image-run-after-within ws at table tree (bytes.Whole image next) l m w =
+    with-image-run-within ws at next table tree image (runAt ws next) l m (sooner-bytes (past-run m) w) (run-within ws next)
+image-run-after-within ws at table tree bytes.Short l m w = tt
+
+image-run-of-within : (ws : List ℕ) (at : ℕ) (r : TwoRuns) → RunsWithin ws at r → ImageRunWithin ws at (imageRunOf ws r)
+unfolding RunsWithin ImageRunWithin imageRunOf
+image-run-of-within ws at (runs.Whole table tree) w =
+    image-run-after-within ws at table tree (bytesAt ws (tree .after)) (w .0) (w .1) (bytes-within ws (tree .after))
+image-run-of-within ws at runs.Short w = tt
+
+image-run-within : (ws : List ℕ) (at : ℕ) → ImageRunWithin ws at (imageRunAt ws at)
+unfolding imageRunAt
+image-run-within ws at = image-run-of-within ws at (twoRunsAt ws at) (runs-within ws at)
+
 -- a request's parts lie past its number
 read-of-within : (ws : List ℕ) (at : ℕ) (r : Run) → RunWithin ws (at + 1) r → Within ws at (readOf r)
 unfolding RunWithin Within readOf
@@ -280,6 +378,21 @@ unfolding ThreeWithin Within encodeOf
 encode-of-within ws at (three.Whole table entry values) w = (sooner (w .0), w .1)
 encode-of-within ws at three.Short w = tt
 
+check-of-within : (ws : List ℕ) (at : ℕ) (r : TwoRuns) → RunsWithin ws (at + 1) r → Within ws at (checkOf r)
+unfolding RunsWithin Within checkOf
+check-of-within ws at (runs.Whole table tree) w = (sooner (w .0), sooner (w .1))
+check-of-within ws at runs.Short w = tt
+
+step-of-within : (ws : List ℕ) (at : ℕ) (r : ImageWord) → ImageWordWithin ws (at + 1) r → Within ws at (stepOf r)
+unfolding ImageWordWithin Within stepOf
+step-of-within ws at (stepped.Whole table tree image word next) w = (sooner (w .0), sooner (w .1), sooner-bytes (omega arith) (w .2))
+step-of-within ws at stepped.Short w = tt
+
+list-of-within : (ws : List ℕ) (at : ℕ) (r : ImageRun) → ImageRunWithin ws (at + 1) r → Within ws at (listOf r)
+unfolding ImageRunWithin Within listOf
+list-of-within ws at (listed.Whole table tree image last) w = (sooner (w .0), sooner (w .1), w .2, sooner (w .3))
+list-of-within ws at listed.Short w = tt
+
 walk-of-within : (ws : List ℕ) (at : ℕ) (r : TableWord) → TwoWithin ws (at + 1) r → Within ws at (walkOf r)
 unfolding TwoWithin Within walkOf
 walk-of-within ws at (two.Whole tree word) w = (sooner (w .0), w .1)
@@ -294,8 +407,11 @@ request-within ws at =
     (λ f. rw f (cases (eqb (getD ws at 0) 4) (λ t. rw t (simulate-of-within ws at (bytesWordAt ws (at + 1)) (octets-within ws (at + 1))))
     (λ f. rw f (cases (eqb (getD ws at 0) 5) (λ t. rw t (decode-of-within ws at (tableWordRunAt ws (at + 1)) (three-within ws (at + 1))))
     (λ f. rw f (cases (eqb (getD ws at 0) 6) (λ t. rw t (encode-of-within ws at (tableWordRunAt ws (at + 1)) (three-within ws (at + 1))))
+    (λ f. rw f (cases (eqb (getD ws at 0) 7) (λ t. rw t (check-of-within ws at (twoRunsAt ws (at + 1)) (runs-within ws (at + 1))))
+    (λ f. rw f (cases (eqb (getD ws at 0) 8) (λ t. rw t (step-of-within ws at (imageWordAt ws (at + 1)) (image-word-within ws (at + 1))))
+    (λ f. rw f (cases (eqb (getD ws at 0) 9) (λ t. rw t (list-of-within ws at (imageRunAt ws (at + 1)) (image-run-within ws (at + 1))))
     (λ f. rw f (cases (eqb (getD ws at 0) 10) (λ t. rw t (walk-of-within ws at (tableWordAt ws (at + 1)) (two-within ws (at + 1))))
-    (λ f. rw f tt)))))))))))))
+    (λ f. rw f tt)))))))))))))))))))
 
 -- where the parts of each kind of request lie
 module _ (ws : List ℕ) (at : ℕ) where
@@ -323,6 +439,20 @@ module _ (ws : List ℕ) (at : ℕ) where
       → Lies ws at table × Lies ws (table .after) buffer
   unfolding Within
   decode-within e = subst (Within ws at) e (request-within ws at)
+
+  pub check-within : {table tree : Part} → requestAt ws at ≡ Check table tree → Lies ws at table × Lies ws at tree
+  unfolding Within
+  check-within e = subst (Within ws at) e (request-within ws at)
+
+  pub step-within : {table tree image : Part} {address next : ℕ} → requestAt ws at ≡ Step table tree image address next
+      → Lies ws at table × Lies ws at tree × BytesLie ws at image next
+  unfolding Within
+  step-within e = subst (Within ws at) e (request-within ws at)
+
+  pub items-within : {table tree image buffer : Part} → requestAt ws at ≡ Items table tree image buffer
+      → Lies ws at table × Lies ws at tree × Spans ws image × Lies ws at buffer
+  unfolding Within
+  items-within e = subst (Within ws at) e (request-within ws at)
 
   pub encode-within : {table : Part} {entry : ℕ} {values : Part} → requestAt ws at ≡ Encode table entry values
       → Lies ws at table × Lies ws (table .after) values

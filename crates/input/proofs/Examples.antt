@@ -6,11 +6,11 @@ use mathlib.Core.List.{List, [], _∷_}
 use lib.ListN.{replicate}
 use Rattle.words.specs.Bytes.{wordOf, wordsOf}
 use Rattle.input.specs.Bytes.{written, filled, isTable}
-use Rattle.input.specs.Requests.{runAt, wordAfter, tableWordAt, withRun, runAfter, tableWordRunAt, pairOf, secondAfter, twoRunsAt, bytesAt, wordAfterBytes, bytesWordAt, readOf, lookupOf, generateOf, simulateOf, decodeOf, encodeOf, walkOf, requestOf, requestAt}
+use Rattle.input.specs.Requests.{runAt, wordAfter, tableWordAt, withRun, runAfter, tableWordRunAt, pairOf, secondAfter, twoRunsAt, bytesAt, wordAfterBytes, bytesWordAt, withImageWord, imageWordAfter, imageWordAt, withImageRun, imageRunAfter, imageRunOf, imageRunAt, readOf, lookupOf, generateOf, simulateOf, decodeOf, encodeOf, checkOf, stepOf, listOf, walkOf, requestOf, requestAt}
 use Rattle.input.specs.declared.Part.{Part}
 use Rattle.input.specs.declared.Run.the-variants.{Whole, Short}
 use Rattle.input.specs.declared.Request.{Request}
-use Rattle.input.specs.declared.Request.the-variants.{Read, Lookup, Generate, Simulate, Decode, Encode, Walk, Stopped}
+use Rattle.input.specs.declared.Request.the-variants.{Read, Lookup, Generate, Simulate, Decode, Encode, Check, Step, Items, Walk, Stopped}
 
 -- a word and one byte more: low byte first, and the rest left out
 words-are : wordsOf (0x10 ∷ 0x32 ∷ 0x54 ∷ 0x76 ∷ 0x98 ∷ []) ≡ 0x76543210 ∷ []
@@ -41,7 +41,7 @@ rest-is = refl
 
 -- what is asked, with every definition open
 opened : List ℕ → ℕ → Request
-unfolding runAt wordAfter tableWordAt withRun runAfter tableWordRunAt pairOf secondAfter twoRunsAt bytesAt wordAfterBytes bytesWordAt readOf lookupOf generateOf simulateOf decodeOf encodeOf walkOf requestOf requestAt
+unfolding runAt wordAfter tableWordAt withRun runAfter tableWordRunAt pairOf secondAfter twoRunsAt bytesAt wordAfterBytes bytesWordAt withImageWord imageWordAfter imageWordAt withImageRun imageRunAfter imageRunOf imageRunAt readOf lookupOf generateOf simulateOf decodeOf encodeOf checkOf stepOf listOf walkOf requestOf requestAt
 opened ws at = requestAt ws at
 
 abbrev part : ℕ → ℕ → Part
@@ -179,3 +179,42 @@ walk-cut = refl
 walk-long : requestAt (10 ∷ 3 ∷ 8 ∷ 9 ∷ 7 ∷ []) 0 ≡ Stopped
 unfolding opened
 walk-long = refl
+
+-- a tree of two words to check against a table of one; without the tree's last word
+check-is : requestAt (7 ∷ 1 ∷ 9 ∷ 2 ∷ 3 ∷ 4 ∷ []) 0 ≡ Check (part 2 3) (part 4 6)
+unfolding opened
+check-is = refl
+
+check-cut : requestAt (7 ∷ 1 ∷ 9 ∷ 2 ∷ 3 ∷ []) 0 ≡ Stopped
+unfolding opened
+check-cut = refl
+
+-- a step at address 6 of an image of five bytes; without the address, and without the image
+step-is : requestAt (8 ∷ 1 ∷ 9 ∷ 1 ∷ 9 ∷ 5 ∷ 8 ∷ 8 ∷ 6 ∷ []) 0 ≡ Step (part 2 3) (part 4 5) (part 24 29) 6 9
+unfolding opened
+step-is = refl
+
+step-cut : requestAt (8 ∷ 1 ∷ 9 ∷ 1 ∷ 9 ∷ 5 ∷ 8 ∷ 8 ∷ []) 0 ≡ Stopped
+unfolding opened
+step-cut = refl
+
+step-no-image : requestAt (8 ∷ 1 ∷ 9 ∷ 1 ∷ 9 ∷ []) 0 ≡ Stopped
+unfolding opened
+step-no-image = refl
+
+-- a listing of an image of two bytes into a buffer of one word; without the buffer's word, its count, and with nine bytes of image
+list-is : requestAt (9 ∷ 1 ∷ 9 ∷ 1 ∷ 9 ∷ 2 ∷ 8 ∷ 1 ∷ 5 ∷ []) 0 ≡ Items (part 2 3) (part 4 5) (part 24 26) (part 8 9)
+unfolding opened
+list-is = refl
+
+list-cut : requestAt (9 ∷ 1 ∷ 9 ∷ 1 ∷ 9 ∷ 2 ∷ 8 ∷ 1 ∷ []) 0 ≡ Stopped
+unfolding opened
+list-cut = refl
+
+list-no-buffer : requestAt (9 ∷ 1 ∷ 9 ∷ 1 ∷ 9 ∷ 2 ∷ 8 ∷ []) 0 ≡ Stopped
+unfolding opened
+list-no-buffer = refl
+
+list-nine : requestAt (9 ∷ 1 ∷ 9 ∷ 1 ∷ 9 ∷ 9 ∷ 8 ∷ 8 ∷ []) 0 ≡ Stopped
+unfolding opened
+list-nine = refl

@@ -17,8 +17,12 @@ use Rattle.input.specs.declared.Bytes.{Bytes}
 use Rattle.input.specs.declared.Bytes.the-variants as bytes
 use Rattle.input.specs.declared.BytesWord.{BytesWord}
 use Rattle.input.specs.declared.BytesWord.the-variants as octets
+use Rattle.input.specs.declared.ImageWord.{ImageWord}
+use Rattle.input.specs.declared.ImageWord.the-variants as stepped
+use Rattle.input.specs.declared.ImageRun.{ImageRun}
+use Rattle.input.specs.declared.ImageRun.the-variants as listed
 use Rattle.input.specs.declared.Request.{Request}
-use Rattle.input.specs.declared.Request.the-variants.{Read, Lookup, Generate, Simulate, Decode, Encode, Walk, Stopped}
+use Rattle.input.specs.declared.Request.the-variants.{Read, Lookup, Generate, Simulate, Decode, Encode, Check, Step, Items, Walk, Stopped}
 
 -- a run is a word n and then n words: the indices of its first word and after its last, if the words reach so far
 unfoldable pub runAt : List ℕ → ℕ → Run
@@ -71,6 +75,34 @@ wordAfterBytes ws bytes.Short = octets.Short
 unfoldable pub bytesWordAt : List ℕ → ℕ → BytesWord
 bytesWordAt ws at = wordAfterBytes ws (bytesAt ws at)
 
+-- a table, a tree, an image as bytes, and the word after them
+unfoldable pub withImageWord : Part → Part → BytesWord → ImageWord
+withImageWord table tree (octets.Whole image word next) = stepped.Whole table tree image word next
+withImageWord table tree octets.Short = stepped.Short
+
+unfoldable pub imageWordAfter : List ℕ → TwoRuns → ImageWord
+imageWordAfter ws (runs.Whole table tree) = withImageWord table tree (bytesWordAt ws (tree .after))
+imageWordAfter ws runs.Short = stepped.Short
+
+unfoldable pub imageWordAt : List ℕ → ℕ → ImageWord
+imageWordAt ws at = imageWordAfter ws (twoRunsAt ws at)
+
+-- a table, a tree, an image as bytes, and the run after them
+unfoldable pub withImageRun : Part → Part → Part → Run → ImageRun
+withImageRun table tree image (run.Whole last) = listed.Whole table tree image last
+withImageRun table tree image run.Short = listed.Short
+
+unfoldable pub imageRunAfter : List ℕ → Part → Part → Bytes → ImageRun
+imageRunAfter ws table tree (bytes.Whole image next) = withImageRun table tree image (runAt ws next)
+imageRunAfter ws table tree bytes.Short = listed.Short
+
+unfoldable pub imageRunOf : List ℕ → TwoRuns → ImageRun
+imageRunOf ws (runs.Whole table tree) = imageRunAfter ws table tree (bytesAt ws (tree .after))
+imageRunOf ws runs.Short = listed.Short
+
+unfoldable pub imageRunAt : List ℕ → ℕ → ImageRun
+imageRunAt ws at = imageRunOf ws (twoRunsAt ws at)
+
 -- request 1: a table to read
 unfoldable pub readOf : Run → Request
 readOf (run.Whole table) = Read table
@@ -101,6 +133,21 @@ unfoldable pub encodeOf : TableWordRun → Request
 encodeOf (three.Whole table entry values) = Encode table entry values
 encodeOf three.Short = Stopped
 
+-- request 7: a table, and a tree to check against it
+unfoldable pub checkOf : TwoRuns → Request
+checkOf (runs.Whole table tree) = Check table tree
+checkOf runs.Short = Stopped
+
+-- request 8: a table, a tree, an image, and an address
+unfoldable pub stepOf : ImageWord → Request
+stepOf (stepped.Whole table tree image address next) = Step table tree image address next
+stepOf stepped.Short = Stopped
+
+-- request 9: a table, a tree, an image, and a buffer
+unfoldable pub listOf : ImageRun → Request
+listOf (listed.Whole table tree image buffer) = Items table tree image buffer
+listOf listed.Short = Stopped
+
 -- request 10: a tree, and a word to walk it with
 unfoldable pub walkOf : TableWord → Request
 walkOf (two.Whole tree word) = Walk tree word
@@ -115,8 +162,11 @@ requestOf number ws at =
     (cond (eqb number 4) (simulateOf (bytesWordAt ws at))
     (cond (eqb number 5) (decodeOf (tableWordRunAt ws at))
     (cond (eqb number 6) (encodeOf (tableWordRunAt ws at))
+    (cond (eqb number 7) (checkOf (twoRunsAt ws at))
+    (cond (eqb number 8) (stepOf (imageWordAt ws at))
+    (cond (eqb number 9) (listOf (imageRunAt ws at))
     (cond (eqb number 10) (walkOf (tableWordAt ws at))
-    Stopped))))))
+    Stopped)))))))))
 
 -- a request is its number and what goes with that; past the end the number is 0, which no request has
 unfoldable pub requestAt : List ℕ → ℕ → Request

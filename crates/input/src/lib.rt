@@ -1,23 +1,15 @@
 // How the programs take their input apart: bytes into words, and words into requests.
 ghost use mathlib.Core.Path.{_≡_};
-ghost use Prim.Native.Nat.{min};
 ghost use Rattle.input.specs.Bytes.{isTable, Fills};
-ghost use Rattle.input.specs.Requests.{runAt, tableWordAt, tableWordRunAt, twoRunsAt, bytesAt, bytesWordAt};
-ghost use Rattle.input.specs.Requests.{readOf, lookupOf, generateOf, simulateOf, decodeOf, encodeOf, walkOf, requestAt};
-
-// The smaller of two numbers.
-fn least(a: usize, b: usize) -> usize
-    ensures { λ r. ⌜ r ≡ min a b ⌝ }
-{
-    if a < b { a } else { b }
-}
+ghost use Rattle.input.specs.Requests.{runAt, tableWordAt, tableWordRunAt, twoRunsAt, bytesAt, bytesWordAt, imageWordAt, withImageRun, imageRunAt};
+ghost use Rattle.input.specs.Requests.{readOf, lookupOf, generateOf, simulateOf, decodeOf, encodeOf, checkOf, stepOf, listOf, walkOf, requestAt};
 
 // Writes the whole words of the bytes to the buffer's first words, as many as it takes, and answers
 // how many were written.
 pub fn words_of(bytes: &[u8], out: &mut [u32]) -> usize
     ensures { λ r. ⌜ Fills (now (bytes .entry)) (now (out .entry)) (now (out .exit)) r ⌝ }
 {
-    let n = least(bytes.len() / 4, out.len());
+    let n = words::lesser(bytes.len() / 4, out.len());
     let mut i = 0;
     while i < n {
         out[i] = words::word_in(bytes, i);
@@ -175,6 +167,56 @@ fn bytes_word_at(ws: &[u32], at: usize) -> BytesWord
     BytesWord::Whole(bytes, word, after)
 }
 
+// A table, a tree, an image as bytes, the word after them, and the index of the word after that.
+enum ImageWord {
+    Whole(Part, Part, Part, u32, usize),
+    Short,
+}
+
+// The table, the tree, the image and the word at an index, if the words hold all four.
+fn image_word_at(ws: &[u32], at: usize) -> ImageWord
+    ensures { λ r. ⌜ r ≡ imageWordAt (now (ws .entry)) at ⌝ }
+{
+    let TwoRuns::Whole(table, tree) = two_runs_at(ws, at) else {
+        return ImageWord::Short;
+    };
+    let next = tree.after;
+    let BytesWord::Whole(image, word, after) = bytes_word_at(ws, next) else {
+        return ImageWord::Short;
+    };
+    ImageWord::Whole(table, tree, image, word, after)
+}
+
+// A table, a tree, an image as bytes, and the run after them.
+enum ImageRun {
+    Whole(Part, Part, Part, Part),
+    Short,
+}
+
+// The run at an index, after a table, a tree and an image.
+fn image_then_run(ws: &[u32], table: Part, tree: Part, image: Part, at: usize) -> ImageRun
+    ensures { λ r. ⌜ r ≡ withImageRun table tree image (runAt (now (ws .entry)) at) ⌝ }
+{
+    match run_at(ws, at) {
+        Run::Whole(last) => ImageRun::Whole(table, tree, image, last),
+        Run::Short => ImageRun::Short,
+    }
+}
+
+// The table, the tree, the image and the run at an index, if the words hold all four.
+fn image_run_at(ws: &[u32], at: usize) -> ImageRun
+    ensures { λ r. ⌜ r ≡ imageRunAt (now (ws .entry)) at ⌝ }
+{
+    let TwoRuns::Whole(table, tree) = two_runs_at(ws, at) else {
+        return ImageRun::Short;
+    };
+    let next = tree.after;
+    let Bytes::Whole(image, after) = bytes_at(ws, next) else {
+        return ImageRun::Short;
+    };
+    image_then_run(ws, table, tree, image, after)
+}
+
 // What is asked: where its runs lie, and its words. The next request begins after the last run, or,
 // where a word follows that, after the word. Where a part counts bytes, the request also says at
 // which word the next one begins.
@@ -185,6 +227,9 @@ pub enum Request {
     Simulate(Part, u32, usize),
     Decode(Part, u32, Part),
     Encode(Part, u32, Part),
+    Check(Part, Part),
+    Step(Part, Part, Part, u32, usize),
+    Items(Part, Part, Part, Part),
     Walk(Part, u32),
     Stopped,
 }
@@ -249,6 +294,40 @@ fn encode_at(ws: &[u32], at: usize) -> Request
     }
 }
 
+// What follows the number 7: a table, and a tree to check against it.
+fn check_at(ws: &[u32], at: usize) -> Request
+    ensures { λ r. ⌜ r ≡ checkOf (twoRunsAt (now (ws .entry)) at) ⌝ }
+{
+    match two_runs_at(ws, at) {
+        TwoRuns::Whole(table, tree) => Request::Check(table, tree),
+        TwoRuns::Short => Request::Stopped,
+    }
+}
+
+// What follows the number 8: a table, a tree, an image, and an address to step at.
+fn step_at(ws: &[u32], at: usize) -> Request
+    ensures { λ r. ⌜ r ≡ stepOf (imageWordAt (now (ws .entry)) at) ⌝ }
+{
+    match image_word_at(ws, at) {
+        ImageWord::Whole(table, tree, image, address, next) => {
+            Request::Step(table, tree, image, address, next)
+        }
+        ImageWord::Short => Request::Stopped,
+    }
+}
+
+// What follows the number 9: a table, a tree, an image, and a buffer for its items.
+fn list_at(ws: &[u32], at: usize) -> Request
+    ensures { λ r. ⌜ r ≡ listOf (imageRunAt (now (ws .entry)) at) ⌝ }
+{
+    match image_run_at(ws, at) {
+        ImageRun::Whole(table, tree, image, buffer) => {
+            Request::Items(table, tree, image, buffer)
+        }
+        ImageRun::Short => Request::Stopped,
+    }
+}
+
 // What follows the number 10: a tree, and a word to walk it with.
 fn walk_at(ws: &[u32], at: usize) -> Request
     ensures { λ r. ⌜ r ≡ walkOf (tableWordAt (now (ws .entry)) at) ⌝ }
@@ -275,6 +354,9 @@ pub fn request_at(ws: &[u32], at: usize) -> Request
         4 => simulate_at(ws, next),
         5 => decode_at(ws, next),
         6 => encode_at(ws, next),
+        7 => check_at(ws, next),
+        8 => step_at(ws, next),
+        9 => list_at(ws, next),
         10 => walk_at(ws, next),
         _ => Request::Stopped,
     }

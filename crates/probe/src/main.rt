@@ -1,5 +1,8 @@
 // Answers the requests on standard input, each by one line, until the input ends or a request stops
 // it. The libraries decide what a request is, what its answer is and how a number is written.
+use image::HalfwordAddress;
+use image::Listed;
+use image::Stepped;
 use input::Part;
 use input::Request;
 use libc::STDIN_FILENO;
@@ -8,6 +11,7 @@ use operands::Decoding;
 use operands::Encoding;
 use selection::Selected;
 use table::Answer;
+use tree::Checked;
 use tree::Generated;
 use walker::Walked;
 ghost use mathlib.Core.List.{_++_};
@@ -239,6 +243,95 @@ fn answer_encode(words: &[u32], entry: u32, values: &[u32]) {
     write_line(&mut line, end);
 }
 
+// Checks a tree and puts what comes of it.
+fn put_check(line: &mut [u8], words: &[u32], tree: &[u32]) -> usize
+    ensures { λ r. ⌜ r ≤ length (now (line .exit)) ⌝ }
+{
+    match tree::check(words, tree) {
+        Checked::Yes => {
+            let head = put_head(line, 7, 0, 0, 0);
+            text::put_bytes(line, head, b" yes")
+        }
+        Checked::No => put_head(line, 7, 14, 0, 0),
+        Checked::Refused(number, place) => put_head(line, 7, number, place, 0),
+    }
+}
+
+// Request 7.
+fn answer_check(words: &[u32], tree: &[u32]) {
+    let mut line = [0u8; 64];
+    let end = put_check(&mut line, words, tree);
+    write_line(&mut line, end);
+}
+
+// The line of a step's item, and of a step at the image's end.
+fn put_item(line: &mut [u8], word: u32, next: u32) -> usize
+    ensures { λ r. ⌜ r ≤ length (now (line .exit)) ⌝ }
+{
+    let head = put_head(line, 8, 0, 0, 0);
+    let after = put_word(line, head, word);
+    put_number(line, after, next)
+}
+
+fn put_end(line: &mut [u8]) -> usize
+    ensures { λ r. ⌜ r ≤ length (now (line .exit)) ⌝ }
+{
+    let head = put_head(line, 8, 0, 0, 0);
+    text::put_bytes(line, head, b" end")
+}
+
+// Takes a step and puts what comes of it.
+fn put_step(line: &mut [u8], words: &[u32], tree: &[u32], image: &[u8], address: u32) -> usize
+    ensures { λ r. ⌜ r ≤ length (now (line .exit)) ⌝ }
+{
+    match image::step(words, tree, image, HalfwordAddress(address)) {
+        Stepped::Item(word, next) => put_item(line, word, next.0),
+        Stepped::End => put_end(line),
+        Stepped::BadTable => put_head(line, 8, 15, 0, 0),
+        Stepped::BadImage => put_head(line, 8, 16, 0, 0),
+        Stepped::BadTree => put_head(line, 8, 14, 0, 0),
+        Stepped::Refused(number, place) => put_head(line, 8, number, place, 0),
+    }
+}
+
+// Request 8.
+fn answer_step(words: &[u32], tree: &[u32], image: &[u8], address: u32) {
+    let mut line = [0u8; 64];
+    let end = put_step(&mut line, words, tree, image, address);
+    write_line(&mut line, end);
+}
+
+// Lists an image into a buffer and puts what comes of it, but for the buffer.
+fn put_listing(
+    line: &mut [u8],
+    words: &[u32],
+    tree: &[u32],
+    image: &[u8],
+    out: &mut [u32],
+) -> usize
+    ensures { λ r. ⌜ r ≤ length (now (line .exit)) ⌝ }
+{
+    match image::list(words, tree, image, out) {
+        Listed::Items(count) => put_result(line, 9, count),
+        Listed::Full(address) => put_head(line, 9, 17, address.0, 0),
+        Listed::BadTable => put_head(line, 9, 15, 0, 0),
+        Listed::BadImage => put_head(line, 9, 16, 0, 0),
+        Listed::BadTree => put_head(line, 9, 14, 0, 0),
+        Listed::Refused(number, place) => put_head(line, 9, number, place, 0),
+    }
+}
+
+// Request 9, with a copy of the buffer as for request 3.
+fn answer_list(words: &[u32], tree: &[u32], image: &[u8], given: &[u32], room: &mut [u32])
+    requires { ⌜ length (now given) ≤ length (now room) ⌝ }
+{
+    let n = given.len();
+    copy(given, room);
+    let mut line = io::buffer();
+    let head = put_listing(&mut line, words, tree, image, &mut room[..n]);
+    write_buffer(&mut line, head, &room[..n]);
+}
+
 // Walks a tree and puts what comes of it.
 fn put_walk(line: &mut [u8], tree: &[u32], word: u32) -> usize
     ensures { λ r. ⌜ r ≤ length (now (line .exit)) ⌝ }
@@ -292,46 +385,55 @@ fn bytes_in(bytes: &[u8], part: Part) -> &[u8]
     &bytes[first..after]
 }
 
-// Answers the request at an index, and gives the index to go on at: the next request's, or the end
-// where this one stops the program. The words are those of the bytes, and the room takes a copy of
+// Answers the request at an index. The words are those of the bytes, and the room takes a copy of
 // any part of them.
-fn answer(bytes: &[u8], ws: &[u32], at: usize, end: usize, room: &mut [u32]) -> usize
-    requires { ⌜ (at < end) × (end < 2 ^ 32) × (length (now ws) ≤ length (now room)) × (length (now ws) * 4 ≤ length (now bytes)) ⌝ }
+fn answer(bytes: &[u8], ws: &[u32], at: usize, room: &mut [u32])
+    requires { ⌜ (at < 2 ^ 32) × (length (now ws) ≤ length (now room)) × (length (now ws) * 4 ≤ length (now bytes)) ⌝ }
+{
+    match input::request_at(ws, at) {
+        Request::Read(table) => answer_read(words_in(ws, table)),
+        Request::Lookup(table, word) => answer_lookup(words_in(ws, table), word),
+        Request::Generate(table, buffer) => {
+            answer_generate(words_in(ws, table), words_in(ws, buffer), room)
+        }
+        Request::Simulate(tree, word, _) => answer_simulate(bytes_in(bytes, tree), word),
+        Request::Decode(table, word, buffer) => {
+            answer_decode(words_in(ws, table), word, words_in(ws, buffer), room)
+        }
+        Request::Encode(table, entry, values) => {
+            answer_encode(words_in(ws, table), entry, words_in(ws, values))
+        }
+        Request::Check(table, tree) => answer_check(words_in(ws, table), words_in(ws, tree)),
+        Request::Step(table, tree, image, address, _) => {
+            answer_step(words_in(ws, table), words_in(ws, tree), bytes_in(bytes, image), address)
+        }
+        Request::Items(table, tree, image, buffer) => {
+            let items = words_in(ws, buffer);
+            answer_list(words_in(ws, table), words_in(ws, tree), bytes_in(bytes, image), items, room)
+        }
+        Request::Walk(tree, word) => answer_walk(words_in(ws, tree), word),
+        Request::Stopped => answer_stopped(at as u32),
+    }
+}
+
+// Where to go on after the request at an index: at the next one, or at the end where this one stops
+// the program.
+fn next_at(ws: &[u32], at: usize, end: usize) -> usize
+    requires { ⌜ at < end ⌝ }
     ensures { λ r. ⌜ at < r ⌝ }
 {
     match input::request_at(ws, at) {
-        Request::Read(table) => {
-            answer_read(words_in(ws, table));
-            table.after
-        }
-        Request::Lookup(table, word) => {
-            answer_lookup(words_in(ws, table), word);
-            table.after + 1
-        }
-        Request::Generate(table, buffer) => {
-            answer_generate(words_in(ws, table), words_in(ws, buffer), room);
-            buffer.after
-        }
-        Request::Simulate(tree, word, next) => {
-            answer_simulate(bytes_in(bytes, tree), word);
-            next
-        }
-        Request::Decode(table, word, buffer) => {
-            answer_decode(words_in(ws, table), word, words_in(ws, buffer), room);
-            buffer.after
-        }
-        Request::Encode(table, entry, values) => {
-            answer_encode(words_in(ws, table), entry, words_in(ws, values));
-            values.after
-        }
-        Request::Walk(tree, word) => {
-            answer_walk(words_in(ws, tree), word);
-            tree.after + 1
-        }
-        Request::Stopped => {
-            answer_stopped(at as u32);
-            end
-        }
+        Request::Read(table) => table.after,
+        Request::Lookup(table, _) => table.after + 1,
+        Request::Generate(_, buffer) => buffer.after,
+        Request::Simulate(_, _, next) => next,
+        Request::Decode(_, _, buffer) => buffer.after,
+        Request::Encode(_, _, values) => values.after,
+        Request::Check(_, tree) => tree.after,
+        Request::Step(_, _, _, _, next) => next,
+        Request::Items(_, _, _, buffer) => buffer.after,
+        Request::Walk(tree, _) => tree.after + 1,
+        Request::Stopped => end,
     }
 }
 
@@ -341,7 +443,8 @@ fn answer_all(bytes: &[u8], ws: &[u32], end: usize, room: &mut [u32])
 {
     let mut at = 0;
     while at < end {
-        at = answer(bytes, ws, at, end, room);
+        answer(bytes, ws, at, room);
+        at = next_at(ws, at, end);
     }
 }
 

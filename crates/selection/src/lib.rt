@@ -77,7 +77,7 @@ fn claimed(ws: &[u32], places: &[u32; 256], n: usize, word: u32) -> [bool; 256]
 }
 
 // Whether the entry at p is more specific than the one at q.
-fn more_specific(ws: &[u32], p: u32, q: u32) -> bool
+pub fn more_specific(ws: &[u32], p: u32, q: u32) -> bool
     ensures { λ r. ⌜ r ≡ moreSpecific (entryAt (now (ws .entry)) p) (entryAt (now (ws .entry)) q) ⌝ }
 {
     let opcode = p as usize + 1;

@@ -31,16 +31,17 @@ use Rattle.flat.specs.declared.Header.{Header}
 use Rattle.flat.specs.declared.Header.the-variants.{Bad, Good}
 use Rattle.flat.specs.declared.Node.{Node}
 use Rattle.flat.specs.declared.Node.the-variants.{Damaged, Asks, Names, Nothing}
-use Rattle.tree.specs.Cell.{Cell, start, zeroSide, oneSide, live, sure, openEntry}
-use Rattle.tree.specs.Tree.{Tree, leaf, test, free, tested, step, treeOf, below, tree, size, answer, asked, conflict, orElse, ifConflict}
+use Rattle.cell.specs.Cell.{Cell, start, zeroSide, oneSide, live, sure, openEntry}
+use Rattle.cell.specs.Step.{free, tested, step}
+use Rattle.tree.specs.Tree.{Tree, leaf, test, treeOf, below, tree, size, answer, asked, conflict, orElse, ifConflict}
 use Rattle.tree.specs.Written.{testWord, leafWord, headerWord, nodes, written}
 use Rattle.tree.specs.Walk.{arrives, after, named, path, enters, walkOf}
 use Rattle.tree.specs.Checker.{settled, isStepOne, isStepTwo, provided, meeting, checkFrom, checkBelow, endsAt, acceptsBy, accepts, checkOf}
 use Rattle.tree.specs.Generate.{fits, generateOf, bufferOf}
 use Rattle.tree.specs.declared.Ended.{Ended}
 use Rattle.tree.specs.declared.Ended.the-variants.{No, At}
-use Rattle.tree.proofs.Cells.{In, sure-claims, claims-live, in-zero, in-one, free-less}
-use Rattle.tree.proofs.Theorem.{Fresh, fresh-none, fresh-more, step-end, induct}
+use Rattle.cell.proofs.Cells.{In, step-end, sure-claims, claims-live, in-zero, in-one, free-less}
+use Rattle.tree.proofs.Theorem.{Fresh, fresh-none, fresh-more, induct}
 use Rattle.tree.proofs.Writing.{length-nodes, size-pos}
 use Rattle.tree.proofs.Demand.{Right, right-walks, read-sane, judgement, buffer-is, words-are}
 use Rattle.tree.proofs.Paths.{Sound, sound-tree, node-test, node-names, node-nothing, header-good}

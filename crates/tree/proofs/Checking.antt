@@ -20,14 +20,14 @@ use Rattle.flat.specs.Nodes.{headerOf, nodeOf}
 use Rattle.flat.specs.declared.Header.{Header}
 use Rattle.flat.specs.declared.Header.the-variants.{Bad, Good}
 use Rattle.flat.specs.declared.Node.the-variants.{Damaged, Asks, Names, Nothing}
-use Rattle.tree.specs.Cell.{Cell, start, zeroSide, oneSide}
-use Rattle.tree.specs.Tree.{free}
-use Rattle.tree.specs.Decide.{cell, verdictOf, isNamed, isNothing}
-use Rattle.tree.specs.Checker.{settled, isStepOne, isStepTwo, provided, meeting, checkFrom, checkBelow, checkSides, endsAt, acceptsBy, accepts, checkOf}
+use Rattle.cell.specs.Cell.{Cell, start, zeroSide, oneSide}
+use Rattle.cell.specs.Step.{free}
+use Rattle.cell.specs.Decide.{cell, verdictOf}
+use Rattle.tree.specs.Checker.{settled, isStepOne, isStepTwo, isNamed, isNothing, provided, meeting, checkFrom, checkBelow, checkSides, endsAt, acceptsBy, accepts, checkOf}
 use Rattle.tree.specs.declared.Ended.{Ended}
 use Rattle.tree.specs.declared.Ended.the-variants.{No, At}
-use Rattle.tree.specs.declared.Verdict.{Verdict}
-use Rattle.tree.proofs.Cells.{free-less}
+use Rattle.cell.specs.declared.Verdict.{Verdict}
+use Rattle.cell.proofs.Cells.{free-less}
 
 -- ---- a verdict is what steps 1 and 2 say
 named-is : (a : Choice) (e : ℕ) → isNamed (verdictOf a) e ≡ isStepOne a e

@@ -25,7 +25,7 @@ use Rattle.table.proofs.Laws.{then-l, first-count, first-wide, first-width, len
 use Rattle.table.proofs.Good.{table-good}
 use Rattle.selection.specs.Selection.{Choice, names, nothing, ambiguous, select}
 use Rattle.selection.proofs.Formula.{Selects, Unclaimed, names-exactly, nothing-exactly}
-use Rattle.tree.specs.Cell.{start}
+use Rattle.cell.specs.Cell.{start}
 use Rattle.tree.specs.Tree.{Tree, tree, size, asked, distinct, conflict}
 use Rattle.tree.specs.Written.{written}
 use Rattle.tree.specs.Generate.{fits, judged, generateOf, leftBy, bufferOf}

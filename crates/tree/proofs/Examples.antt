@@ -12,8 +12,9 @@ use Rattle.table.specs.Check.{readTable}
 use Rattle.table.specs.Worked.{printed, worked}
 use Rattle.table.proofs.Examples.{opened}
 use Rattle.selection.specs.Selection.{names, nothing, matches, moreSpecific, beats, judge}
-use Rattle.tree.specs.Cell.{start, implies, clashes, holds, fails, openCondition, dead, live, sure, openEntry}
-use Rattle.tree.specs.Tree.{leaf, test, votes, inCondition, inOpen, wanted, tested, step, treeOf, free, below, tree, size, conflict}
+use Rattle.cell.specs.Cell.{start, implies, clashes, holds, fails, openCondition, dead, live, sure, openEntry}
+use Rattle.cell.specs.Step.{votes, inCondition, inOpen, wanted, tested, step, free}
+use Rattle.tree.specs.Tree.{leaf, test, treeOf, below, tree, size, conflict}
 use Rattle.tree.specs.Written.{headerWord, testWord, leafWord, nodes, written}
 use Rattle.tree.specs.Generate.{fits, judged, generateOf, leftBy, bufferOf, tableWith}
 use Rattle.flat.specs.Nodes.{headerRest, headerOf, testNode, namesNode, nothingNode, nodeOf}

@@ -18,7 +18,7 @@ use Rattle.table.specs.Table.{Entry, Table, entriesAt}
 use Rattle.table.specs.Check.{readTable}
 use Rattle.table.specs.Ready.{Ready}
 use Rattle.table.proofs.Views.{ready-read}
-use Rattle.tree.specs.Cell.{Cell, start}
+use Rattle.cell.specs.Cell.{Cell, start}
 use Rattle.tree.specs.Tree.{Tree, tree, below, size, conflict}
 use Rattle.tree.specs.Written.{headerWord, nodes, written}
 use Rattle.tree.specs.Generate.{fits, judged, generateOf, leftBy, bufferOf, said, tableWith, WritesTree, Generates, firstOf, Written, Making}

@@ -1,10 +1,5 @@
-pub mod Cells
 pub mod Theorem
-pub mod Machine
-pub mod Searches
-pub mod Parts
-pub mod Loops
-pub mod Deciding
+pub mod Below
 pub mod Examples
 pub mod Writing
 pub mod Makers

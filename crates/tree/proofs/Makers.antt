@@ -9,16 +9,17 @@ use lib.ListN.{set}
 use Rattle.words.specs.Words.{bit}
 use Rattle.table.specs.Table.{Entry}
 use Rattle.selection.specs.Selection.{Choice}
-use Rattle.tree.specs.Cell.{Cell, zeroSide, oneSide}
-use Rattle.tree.specs.Tree.{Tree, leaf, test, size, below, free, ifConflict}
+use Rattle.cell.specs.Cell.{Cell, zeroSide, oneSide}
+use Rattle.cell.specs.Step.{free}
+use Rattle.tree.specs.Tree.{Tree, leaf, test, size, below, ifConflict}
 use Rattle.tree.specs.Written.{leafWord, testWord, nodes}
-use Rattle.tree.specs.Decide.{cell}
+use Rattle.cell.specs.Decide.{cell}
 use Rattle.tree.specs.Generate.{firstOf, orFirst, Written, Making, splitOf}
 use Rattle.tree.specs.declared.First.{First}
 use Rattle.tree.specs.declared.First.the-variants.{Clean, Clash}
 use Rattle.tree.specs.declared.Made.{Made}
 use Rattle.tree.specs.declared.Made.the-variants.{Full, Wrote}
-use Rattle.tree.proofs.Cells.{free-less}
+use Rattle.cell.proofs.Cells.{free-less}
 use Rattle.tree.proofs.Writing.{leaf-written, zero-full, one-full, test-written, size-pos}
 
 module _ (r : Made) (out last : List ℕ) (t : Tree) (c : Cell) (at limit : ℕ) where

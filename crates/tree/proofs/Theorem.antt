@@ -16,29 +16,18 @@ use Rattle.words.specs.Words.{bit}
 use Rattle.table.specs.Lawful.{goodTable}
 use Rattle.table.specs.Table.{Entry, entryNumber}
 use Rattle.selection.specs.Selection.{Choice, names, nothing, ambiguous, claims, judge, select}
-use Rattle.tree.specs.Cell.{Cell, start, zeroSide, oneSide, live, sure, openEntry}
-use Rattle.tree.specs.Tree.{Tree, leaf, test, Step, end, split, stepOf, free, tested, step, treeOf, below, tree, answer, asked, isIn, distinct, conflict, orElse, ifConflict}
+use Rattle.cell.specs.Cell.{Cell, start, zeroSide, oneSide, live, sure, openEntry}
+use Rattle.cell.specs.Step.{Step, end, split, stepOf, free, tested, step}
+use Rattle.tree.specs.Tree.{Tree, leaf, test, treeOf, below, tree, answer, asked, isIn, distinct, conflict, orElse, ifConflict}
 use Rattle.words.proofs.Bits.{bit-and, bit-or, bit-pow, and-or, and-pow}
 use Rattle.words.proofs.Logic.{cases, options, clash, isFalse, same, and-i, and-r, or-l, or-ir, or-e, not-it, exists-none, howMany-le}
 use Rattle.selection.proofs.Judging.{answers, judge-names, judge-nothing, judge-same}
-use Rattle.tree.proofs.Cells.{In, sure-claims, claims-live, closed-sure, tested-unfixed, in-zero, in-one, free-less}
+use Rattle.cell.proofs.Cells.{In, sure-claims, claims-live, closed-sure, step-end, split-right, in-zero, in-one, free-less}
 
 -- by cases on a step
 steps {ℓ} : {G : Type ℓ} (s : Step) → ((a : Choice) → s ≡ end a → G) → ((i : ℕ) → s ≡ split i → G) → G
 steps (end a) f g = f a refl
 steps (split i) f g = g i refl
-
-pub step-split : (a : Choice) (o : Bool) (k i : ℕ) → stepOf a o k ≡ split i → (o ≡ true) × (k ≡ i)
-step-split (names e) o k i h = (cc, cc)
-step-split nothing o k i h = (cc, cc)
-step-split ambiguous true k i h = (refl, cc)
-step-split ambiguous false k i h = (cc, cc)
-
-pub step-end : (b : Choice) (o : Bool) (k : ℕ) (a : Choice) → stepOf b o k ≡ end a → (b ≡ a) × (b ≡ ambiguous → o ≡ false)
-step-end (names e) o k a h = (cc, λ z. cc)
-step-end nothing o k a h = (cc, λ z. cc)
-step-end ambiguous true k a h = (cc, λ z. cc)
-step-end ambiguous false k a h = (cc, λ z. refl)
 
 -- the cell's own bits stay in it
 own-zero : (c : Cell) (i : ℕ) → bit (c .fixed) i ≡ false → In c (c .bits) → In (zeroSide c i) (c .bits)
@@ -100,13 +89,6 @@ module _ (es : List Entry) (width : ℕ) (good : goodTable width es ≡ true) wh
       (λ i l. same (λ t. sure-claims c w h (entryNumber es i) (closed-sure c (entryNumber es i) (shut i l) t)) (claims-live c w h (entryNumber es i))))
       ∙ r .0)
 
-  -- a tested bit is unfixed
-  pub split-right : (c : Cell) (i : ℕ) → step es width c ≡ split i → (i < width) × (bit (c .fixed) i ≡ false)
-  unfolding step
-  split-right c i e =
-      let r = step-split (judge es (sure c) (live c)) (exists (λ j. openEntry c (entryNumber es j)) (length es)) (tested es width c) i e in
-      subst (λ (k : ℕ). (k < width) × (bit (c .fixed) k ≡ false)) (r .1) (tested-unfixed es width c good (r .0))
-
   -- what leaves have, and tests have of their sides, the tree has
   pub induct : (P : Cell → Tree → Type 0)
       → ((c : Cell) (a : Choice) → step es width c ≡ end a → P c (leaf a))
@@ -116,11 +98,11 @@ module _ (es : List Entry) (width : ℕ) (good : goodTable width es ≡ true) wh
   induct P onLeaf onTest zero c h =
       steps (step es width c)
       (λ a e. rw e (onLeaf c a e))
-      (λ i e. let s = split-right c i e in absurd (let k = free-less c i width (s .0) (s .1) in omega arith))
+      (λ i e. let s = split-right es width good c i e in absurd (let k = free-less c i width (s .0) (s .1) in omega arith))
   induct P onLeaf onTest (suc n) c h =
       steps (step es width c)
       (λ a e. rw e (onLeaf c a e))
-      (λ i e. let s = split-right c i e in
+      (λ i e. let s = split-right es width good c i e in
       let k : free width (bitOr (c .fixed) (2 ^ i)) ≤ n = let z = free-less c i width (s .0) (s .1) in omega arith in
       rw e (onTest c i _ _ e (s .0) (s .1) (induct P onLeaf onTest n (zeroSide c i) k) (induct P onLeaf onTest n (oneSide c i) k)))
 

@@ -9,7 +9,7 @@ use lib.ListN.{length, set, length-append}
 use lib.Seq.{sets}
 use Rattle.words.proofs.Lists.{sets-append, set-sets}
 use Rattle.selection.specs.Selection.{Choice, names, nothing, ambiguous}
-use Rattle.tree.specs.Cell.{Cell, zeroSide, oneSide}
+use Rattle.cell.specs.Cell.{Cell, zeroSide, oneSide}
 use Rattle.tree.specs.Tree.{Tree, leaf, test, size, conflict, ifConflict, orElse}
 use Rattle.tree.specs.Written.{leafWord, testWord, nodes}
 use Rattle.tree.specs.Generate.{firstOf, orFirst, Written}

@@ -14,8 +14,9 @@ use Rattle.flat.specs.declared.Header.{Header}
 use Rattle.flat.specs.declared.Header.the-variants.{Bad, Good}
 use Rattle.flat.specs.declared.Node.{Node}
 use Rattle.flat.specs.declared.Node.the-variants.{Damaged, Asks, Names, Nothing}
-use Rattle.tree.specs.Cell.{Cell, start, zeroSide, oneSide, live, sure}
-use Rattle.tree.specs.Tree.{free}
+use Rattle.cell.specs.Cell.{Cell, start, zeroSide, oneSide, live, sure}
+use Rattle.cell.specs.Step.{free}
+use Rattle.cell.specs.declared.Verdict.{Verdict}
 use Rattle.tree.specs.declared.Ended.{Ended}
 use Rattle.tree.specs.declared.Ended.the-variants.{No, At}
 use Rattle.tree.specs.declared.Checked.{Checked}
@@ -38,6 +39,17 @@ unfoldable pub isStepTwo : Choice → Bool
 isStepTwo (names i) = false
 isStepTwo nothing = true
 isStepTwo ambiguous = false
+
+-- the same of the code's verdict on a cell
+unfoldable pub isNamed : Verdict → ℕ → Bool
+isNamed (Verdict.Names i) e = eqb i e
+isNamed Verdict.Nothing e = false
+isNamed Verdict.Stuck e = false
+
+unfoldable pub isNothing : Verdict → Bool
+isNothing (Verdict.Names i) = false
+isNothing Verdict.Nothing = true
+isNothing Verdict.Stuck = false
 
 -- ---- a subtree: the index after it if it is right, else no
 

@@ -11,7 +11,7 @@ use Rattle.words.specs.Tests.{_and_}
 use Rattle.table.specs.Outcome.{Outcome, result, refused}
 use Rattle.table.specs.Table.{Entry, Table}
 use Rattle.table.specs.Check.{readTable}
-use Rattle.tree.specs.Cell.{Cell, start, zeroSide, oneSide}
+use Rattle.cell.specs.Cell.{Cell, start, zeroSide, oneSide}
 use Rattle.tree.specs.Tree.{Tree, test, below, tree, size, conflict}
 use Rattle.tree.specs.Written.{nodes, written}
 use Rattle.tree.specs.declared.First.{First}

@@ -1,8 +1,7 @@
 // The checker: a lent tree against the entries of a table, node by node, each in its cell.
 use crate::Ended;
-use crate::Verdict;
-use crate::cell;
 use crate::maker;
+use cell::Verdict;
 use flat::Header;
 use flat::Node;
 ghost use mathlib.Core.Path.{_≡_};
@@ -11,8 +10,8 @@ ghost use Prim.Native.Nat.{ℕ, _+_, _≤_, _<_};
 ghost use Rattle.words.specs.Words.{bit};
 ghost use Rattle.table.specs.Ready.{Ready};
 ghost use Rattle.table.specs.Table.{entriesAt};
-ghost use Rattle.tree.specs.Checker.{provided, checkBelow, checkSides, accepts as acceptsOf};
-ghost use Rattle.tree.specs.Decide.{cell as cellOf, isNamed, isNothing};
+ghost use Rattle.cell.specs.Decide.{cell as cellOf};
+ghost use Rattle.tree.specs.Checker.{isNamed, isNothing, provided, checkBelow, checkSides, accepts as acceptsOf};
 
 // Whether a verdict names this entry.
 fn is_named(v: Verdict, entry: u32) -> bool
@@ -73,11 +72,11 @@ fn check_tree(
     match node {
         Node::Damaged => Ended::No,
         Node::Names(entry) => {
-            let verdict = cell::settle(table, places, count, width, fixed, bits);
+            let verdict = cell::settle(table, places, count, fixed, bits);
             leaf_end(is_named(verdict, entry), at)
         }
         Node::Nothing => {
-            let verdict = cell::settle(table, places, count, width, fixed, bits);
+            let verdict = cell::settle(table, places, count, fixed, bits);
             leaf_end(is_nothing(verdict), at)
         }
         Node::Asks(b, one) => {

@@ -4,37 +4,8 @@ ghost use Rattle.table.specs.Check.{readTable};
 ghost use Rattle.tree.specs.Checker.{said, checkOf};
 ghost use Rattle.tree.specs.Generate.{Generates};
 
-mod cell;
 mod checker;
 mod maker;
-
-// What an entry is in a cell.
-enum Status {
-    Dead,
-    Sure,
-    Open,
-}
-
-// What the entries' statuses settle: steps 1 and 2.
-enum Verdict {
-    Names(usize),
-    Nothing,
-    Stuck,
-}
-
-// A bit, and how many want it.
-struct Weighed {
-    pub bit: u32,
-    pub weight: usize,
-}
-
-// What to do with a cell: a leaf, or a bit to test.
-enum Decision {
-    Names(u8),
-    Nothing,
-    Conflict,
-    Test(u8),
-}
 
 // The word of the first conflict cell, if there is one.
 enum First {

@@ -1,13 +1,12 @@
 // The makers: the tree of a cell, in its written form, into a lent buffer. Making a tree and making a node call each other;
 // the number of unfixed bits falls with each tested bit.
-use crate::Decision;
 use crate::First;
 use crate::Generated;
 use crate::Made;
-use crate::cell;
+use cell::Decision;
 ghost use mathlib.Core.Path.{_≡_};
 ghost use mathlib.Core.Bool.{false};
-ghost use Prim.Native.Nat.{ℕ, _+_, _≤_, _<_, _^_, min};
+ghost use Prim.Native.Nat.{ℕ, _+_, _≤_, _<_, _^_};
 ghost use lib.Bits.{bitOr};
 ghost use lib.ListN.{length, set, replicate};
 ghost use Rattle.words.specs.Words.{bit};
@@ -16,7 +15,7 @@ ghost use Rattle.table.specs.Table.{entriesAt};
 ghost use Rattle.selection.specs.Selection.{names, nothing};
 ghost use Rattle.tree.specs.Tree.{below};
 ghost use Rattle.tree.specs.Written.{leafWord, testWord, headerWord};
-ghost use Rattle.tree.specs.Decide.{cell as cellOf};
+ghost use Rattle.cell.specs.Decide.{cell as cellOf};
 ghost use Rattle.tree.specs.Generate.{orFirst, Making, splitOf, WritesTree};
 
 // A mask with bit b set too.
@@ -142,12 +141,6 @@ fn make_node(
     }
 }
 
-fn lesser(a: usize, b: usize) -> usize
-    ensures { λ r. ⌜ r ≡ min a b ⌝ }
-{
-    if a < b { a } else { b }
-}
-
 // Sets every word of a buffer to zero.
 fn clear(out: &mut [u32])
     ensures { λ _. ⌜ now (out .exit) ≡ replicate (length (now (out .entry))) 0 ⌝ }
@@ -170,7 +163,7 @@ pub fn write_tree(
     requires { ⌜ Ready (now table) (now places) width count ⌝ }
     ensures { λ r. ⌜ WritesTree (entriesAt (now (table .entry)) count 1) width (now (out .entry)) (now (out .exit)) r ⌝ }
 {
-    let limit = lesser(out.len(), 16384);
+    let limit = words::lesser(out.len(), 16384);
     let made = make_tree(table, places, count, width, 0, 0, out, 1, limit);
     match made {
         Made::Full => {

@@ -1,6 +1,6 @@
 // Leaves on 32-bit words, total, for every other crate.
 ghost use mathlib.Core.Path.{_≡_};
-ghost use Prim.Native.Nat.{ℕ, _+_, _*_, _%_, _^_, _≤_};
+ghost use Prim.Native.Nat.{ℕ, _+_, _*_, _%_, _^_, _≤_, min};
 ghost use lib.Dec.{ltb};
 ghost use lib.ListN.{length};
 ghost use Rattle.words.specs.Words.{word, part as partOf, run as runOf};
@@ -47,6 +47,13 @@ pub fn fits(w: u32, width: u32) -> bool
         return true;
     }
     w < (1 << width)
+}
+
+// The smaller of two numbers.
+pub fn lesser(a: usize, b: usize) -> usize
+    ensures { λ r. ⌜ r ≡ min a b ⌝ }
+{
+    if a < b { a } else { b }
 }
 
 // The word of four bytes, low byte first.

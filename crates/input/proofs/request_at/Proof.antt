@@ -36,6 +36,15 @@ decode-at-requires c κs = search needs
 encode-at-requires : tie.Need-encode-at-requires
 encode-at-requires c κs = search needs
 
+check-at-requires : tie.Need-check-at-requires
+check-at-requires c κs = search needs
+
+step-at-requires : tie.Need-step-at-requires
+step-at-requires c κs = search needs
+
+list-at-requires : tie.Need-list-at-requires
+list-at-requires c κs = search needs
+
 walk-at-requires : tie.Need-walk-at-requires
 walk-at-requires c κs = search needs
 
@@ -65,10 +74,22 @@ returns-7 c = c .encode-at .ensures ∙ request-known _ _ (c .before .match .key
 
 returns-8 : tie.Need-returns-8
 unfolding requestOf
-returns-8 c = c .walk-at .ensures ∙ request-known _ _ (c .before .match .keys7)
+returns-8 c = c .check-at .ensures ∙ request-known _ _ (c .before .match .keys7)
 
 returns-9 : tie.Need-returns-9
-returns-9 c = let r = c .match .rest in request-unknown _ _ (r .0 .0 .0 .0 .0 .0 .1) (r .0 .0 .0 .0 .0 .1) (r .0 .0 .0 .0 .1) (r .0 .0 .0 .1) (r .0 .0 .1) (r .0 .1) (r .1)
+unfolding requestOf
+returns-9 c = c .step-at .ensures ∙ request-known _ _ (c .before .match .keys8)
+
+returns-10 : tie.Need-returns-10
+unfolding requestOf
+returns-10 c = c .list-at .ensures ∙ request-known _ _ (c .before .match .keys9)
+
+returns-11 : tie.Need-returns-11
+unfolding requestOf
+returns-11 c = c .walk-at .ensures ∙ request-known _ _ (c .before .match .keys10)
+
+returns-12 : tie.Need-returns-12
+returns-12 c = let r = c .match .rest in request-unknown _ _ (r .0 .0 .0 .0 .0 .0 .0 .0 .0 .1) (r .0 .0 .0 .0 .0 .0 .0 .0 .1) (r .0 .0 .0 .0 .0 .0 .0 .1) (r .0 .0 .0 .0 .0 .0 .1) (r .0 .0 .0 .0 .0 .1) (r .0 .0 .0 .0 .1) (r .0 .0 .0 .1) (r .0 .0 .1) (r .0 .1) (r .1)
 
 pub request-at-spec : {M : Type 1} → statement M
 request-at-spec =
@@ -84,6 +105,9 @@ request-at-spec =
     simulate-at-requires
     decode-at-requires
     encode-at-requires
+    check-at-requires
+    step-at-requires
+    list-at-requires
     walk-at-requires
     returns-2
     returns-3
@@ -92,4 +116,7 @@ request-at-spec =
     returns-6
     returns-7
     returns-8
-    returns-9)
+    returns-9
+    returns-10
+    returns-11
+    returns-12)

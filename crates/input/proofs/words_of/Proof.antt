@@ -17,8 +17,8 @@ Inv-loop bytes out₀ n i₀ out i = (i ≤ n) × (n ≤ length bytes / 4) × (n
 abbrev μ-loop : tie.MeasureT-loop
 μ-loop bytes out₀ n i₀ out i = n - i
 
-least-requires : tie.Need-least-requires Inv-loop μ-loop
-least-requires c κs = search needs
+lesser-requires : tie.Need-lesser-requires Inv-loop μ-loop
+lesser-requires c κs = search needs
 
 loop-holds : tie.Need-loop-holds Inv-loop μ-loop
 loop-holds c = (omega arith, omega arith, omega arith, refl, refl)
@@ -55,7 +55,7 @@ same-length c = search needs
 returns : tie.Need-returns Inv-loop μ-loop
 returns c = let a = c .before .before .before .before .before .args in
     let l = c .before .loop in
-    filled-all (a .bytes .now) (a .out .now) (l .out) (l .i) (c .before .before .least .result) (c .before .before .least .ensures) (omega arith) (l .inv .4)
+    filled-all (a .bytes .now) (a .out .now) (l .out) (l .i) (c .before .before .lesser .result) (c .before .before .lesser .ensures) (omega arith) (l .inv .4)
 
 pub words-of-spec : {M : Type 1} → statement M
 words-of-spec =
@@ -63,7 +63,7 @@ words-of-spec =
     (tie.spec
     Inv-loop
     μ-loop
-    least-requires
+    lesser-requires
     loop-holds
     word-in-requires
     mul-out

@@ -1,4 +1,4 @@
-use Rattle.tree.specs.Decide.{isNamed}
+use Rattle.tree.specs.Checker.{isNamed}
 use borrow.Author.Needs.{needs}
 use Rattle.tree.proofs.checker.is_named.Statement.{statement}
 use Rattle.tree.proofs.checker.is_named.Tie as tie

@@ -4,8 +4,8 @@ use mathlib.Core.Logic.{_⊎_, inl, inr}
 use Prim.Native.Nat.{ℕ}
 use native.Mathlib.Omega.{arith}
 use borrow.Author.Needs.{needs}
-use Rattle.tree.specs.Decide.{isNothing}
-use Rattle.tree.specs.declared.Verdict.{Verdict}
+use Rattle.tree.specs.Checker.{isNothing}
+use Rattle.cell.specs.declared.Verdict.{Verdict}
 use Rattle.tree.proofs.checker.is_nothing.Statement.{statement}
 use Rattle.tree.proofs.checker.is_nothing.Tie as tie
 

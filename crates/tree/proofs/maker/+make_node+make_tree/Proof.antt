@@ -4,10 +4,9 @@ use borrow.Author.Needs.{needs}
 use lib.ListN.{length-set}
 use Rattle.table.specs.Table.{entriesAt}
 use Rattle.table.proofs.Views.{ready-wide}
-use Rattle.tree.specs.Tree.{free}
-use Rattle.tree.specs.Decide.{cell, Bounded}
-use Rattle.tree.specs.declared.Decision.{Decision}
-use Rattle.tree.proofs.Deciding.{below-names, below-nothing, below-conflict, below-test}
+use Rattle.cell.specs.Step.{free}
+use Rattle.cell.specs.Decide.{cell}
+use Rattle.tree.proofs.Below.{below-names, below-nothing, below-conflict, below-test, test-bounds}
 use Rattle.tree.proofs.Writing.{conflict-word}
 use Rattle.tree.proofs.Makers.{no-room, leaf-made, zero-is-full, next-le, one-is-full, both-written, fewer}
 use Prim.Native.Nat.{ℕ, _+_, _<_, _≤_}
@@ -19,7 +18,7 @@ use Rattle.tree.proofs.maker.+make_node+make_tree.Lts-make_node as make
 use Rattle.tree.proofs.maker.make_tree.Reads as make-tree
 use Rattle.tree.proofs.maker.make_tree.Kinds as make-tree-kinds
 use Rattle.tree.proofs.maker.+make_node+make_tree.Lts-make_tree as make-tree-lts
-use Rattle.tree.proofs.cell.decide.Reads as decide-reads
+use Rattle.cell.proofs.decide.Reads as decide-reads
 use Rattle.tree.proofs.maker.make_leaf.Reads as make-leaf-reads
 use Rattle.tree.proofs.maker.names_word.Reads as names-word-reads
 use Rattle.tree.proofs.maker.nothing_word.Reads as nothing-word-reads
@@ -153,7 +152,7 @@ make-tree-returns : (t : ℕ) → make-tree-lts.Need-returns (make-tree-claims t
 make-tree-returns t c = no-room _ _ _ _ _ _ (c .if1 .taken)
 
 make-tree-decide-requires : (t : ℕ) → make-tree-lts.Need-decide-requires (make-tree-claims t) (make-tree-at t) make-tree.Post
-make-tree-decide-requires t c κs = c .before .before .before .pre .1 .2
+make-tree-decide-requires t c κs = search needs
 
 make-tree-enum-known-decision : (t : ℕ) → make-tree-lts.Need-enum-known-decision (make-tree-claims t) (make-tree-at t) make-tree.Post
 make-tree-enum-known-decision t c = search needs
@@ -189,7 +188,7 @@ make-tree-make-node-requires : (t : ℕ) → make-tree-lts.Need-make-node-requir
 make-tree-make-node-requires t c κs =
     let d = c .before .before .before .before in
     let s = d .before .before .before .before in
-    let b : Bounded (s .args .count) (s .args .width) (s .args .fixed) (Decision.Test (c .before .before .decision2 .given .0 .0)) = rw (c .before .before .decision2 .given .1) at (d .decide .ensures .1) in
+    let b = test-bounds (s .args .table .now) (s .args .places .now) (s .args .width) (s .args .count) (s .pre .1 .2) (cell (s .args .fixed) (s .args .bits)) _ (d .decide .ensures) _ (c .before .before .decision2 .given .1) in
     (omega (arith, s .pre .0), (s .pre .1 .0, s .pre .1 .1, d .before .if1 .left, b .0, b .1, s .pre .1 .2))
 
 make-tree-same-length : (t : ℕ) → make-tree-lts.Need-same-length (make-tree-claims t) (make-tree-at t) make-tree.Post
@@ -200,7 +199,7 @@ make-tree-returns-2 t c =
     let l = c .before .before in
     let d = l .before .before .before .before .before .before in
     let s = d .before .before .before .before in
-    let q = below-names (s .args .table .now) (s .args .places .now) (s .args .width) (s .args .count) (s .pre .1 .2) (cell (s .args .fixed) (s .args .bits)) _ (sym (l .before .before .before .before .decision .given .1) ∙ d .decide .ensures .0) in
+    let q = below-names (s .args .table .now) (s .args .places .now) (s .args .width) (s .args .count) (s .pre .1 .2) (cell (s .args .fixed) (s .args .bits)) _ (d .decide .ensures) _ (l .before .before .before .before .decision .given .1) in
     leaf-made _ _ (cell (s .args .fixed) (s .args .bits)) (s .args .out .now) (l .make-leaf .last .0) (s .args .at) (s .args .limit) _ (l .make-leaf .result) _ (d .before .if1 .left) q (l .make-leaf .ensures) (l .before .names-word .ensures) refl
 
 make-tree-same-length-2 : (t : ℕ) → make-tree-lts.Need-same-length-2 (make-tree-claims t) (make-tree-at t) make-tree.Post
@@ -211,7 +210,7 @@ make-tree-returns-3 t c =
     let l = c .before .before in
     let d = l .before .before .before .before .before in
     let s = d .before .before .before .before in
-    let q = below-nothing (s .args .table .now) (s .args .places .now) (s .args .width) (s .args .count) (s .pre .1 .2) (cell (s .args .fixed) (s .args .bits)) (sym (l .before .before .before .enum-told .given .1) ∙ d .decide .ensures .0) in
+    let q = below-nothing (s .args .table .now) (s .args .places .now) (s .args .width) (s .args .count) (s .pre .1 .2) (cell (s .args .fixed) (s .args .bits)) _ (d .decide .ensures) (l .before .before .before .enum-told .given .1) in
     leaf-made _ _ (cell (s .args .fixed) (s .args .bits)) (s .args .out .now) (l .make-leaf2 .last .0) (s .args .at) (s .args .limit) _ (l .make-leaf2 .result) _ (d .before .if1 .left) q (l .make-leaf2 .ensures) (l .before .nothing-word .ensures) refl
 
 make-tree-same-length-3 : (t : ℕ) → make-tree-lts.Need-same-length-3 (make-tree-claims t) (make-tree-at t) make-tree.Post
@@ -222,7 +221,7 @@ make-tree-returns-4 t c =
     let l = c .before .before in
     let d = l .before .before .before .before .before in
     let s = d .before .before .before .before in
-    let q = below-conflict (s .args .table .now) (s .args .places .now) (s .args .width) (s .args .count) (s .pre .1 .2) (cell (s .args .fixed) (s .args .bits)) (sym (l .before .before .before .enum-told2 .given .1) ∙ d .decide .ensures .0) in
+    let q = below-conflict (s .args .table .now) (s .args .places .now) (s .args .width) (s .args .count) (s .pre .1 .2) (cell (s .args .fixed) (s .args .bits)) _ (d .decide .ensures) (l .before .before .before .enum-told2 .given .1) in
     leaf-made _ _ (cell (s .args .fixed) (s .args .bits)) (s .args .out .now) (l .make-leaf3 .last .0) (s .args .at) (s .args .limit) _ (l .make-leaf3 .result) _ (d .before .if1 .left) q (l .make-leaf3 .ensures) (l .before .nothing-word2 .ensures ∙ conflict-word) refl
 
 make-tree-same-length-4 : (t : ℕ) → make-tree-lts.Need-same-length-4 (make-tree-claims t) (make-tree-at t) make-tree.Post
@@ -233,7 +232,7 @@ make-tree-returns-5 t c =
     let n = c .before .before in
     let d = n .before .before .before .before .before in
     let s = d .before .before .before .before in
-    rw (below-test (s .args .table .now) (s .args .places .now) (s .args .width) (s .args .count) (s .pre .1 .2) (cell (s .args .fixed) (s .args .bits)) _ (sym (n .before .before .before .decision2 .given .1) ∙ d .decide .ensures .0)) (n .make-node .ensures)
+    rw (below-test (s .args .table .now) (s .args .places .now) (s .args .width) (s .args .count) (s .pre .1 .2) (cell (s .args .fixed) (s .args .bits)) _ (d .decide .ensures) _ (n .before .before .before .decision2 .given .1)) (n .make-node .ensures)
 
 pub +make-node+make-tree-spec : {M : Type 1} → statement M
 +make-node+make-tree-spec = close μ-make-node μ-make-tree (λ t. make-node-lts.spec (make-node-claims t)

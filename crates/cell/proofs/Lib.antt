@@ -1,0 +1,5 @@
+pub mod Cells
+pub mod Searches
+pub mod Parts
+pub mod Loops
+pub mod Deciding

@@ -1,0 +1,96 @@
+use denote.Ref.{now}
+use Prim.Native.Nat.{_<_, min}
+use Rattle.cell.specs.Decide.{cell, stepAt, decisionOf}
+use Rattle.cell.specs.declared.Decision.{Decision}
+use Rattle.cell.proofs.Deciding.{decide-names, decide-nothing, decide-conflict, decide-test}
+use borrow.Author.Tests.{not-true, not-false}
+use native.Mathlib.Omega.{arith}
+use mathlib.Core.Path.{_≡_, sym, _∙_}
+use borrow.Author.Needs.{needs}
+use Rattle.cell.proofs.decide.Statement.{statement}
+use Rattle.cell.proofs.decide.Tie as tie
+
+-- a named entry, of the n that were judged
+named : (c : tie.After-known-told) → let a = c .before .before .before .before .before .before .before .args in
+    let n = c .before .before .before .before .before .lesser .result in
+    let i = c .before .verdict .given .0 .0 in
+    (Decision.Names i ≡ decisionOf (stepAt (now (a .table)) (now (a .places)) n (min (a .width) 32) (cell (a .fixed) (a .bits)))) × (i < n)
+named c = decide-names _ _ _ _ _ (c .before .before .before .before .statuses .ensures) _ _ (c .before .before .before .judge .ensures) _ (c .before .verdict .given .1)
+
+lesser-requires : tie.Need-lesser-requires
+lesser-requires c κs = search needs
+
+statuses-requires : tie.Need-statuses-requires
+statuses-requires c κs = search needs
+
+judge-requires : tie.Need-judge-requires
+judge-requires c κs = search needs
+
+enum-known-verdict : tie.Need-enum-known-verdict
+enum-known-verdict c = search needs
+
+cast-t14 : tie.Need-cast-t14
+cast-t14 c = omega (arith, named c .1, c .before .before .before .before .before .lesser .ensures)
+
+enum-told : tie.Need-enum-told
+enum-told c = search needs
+
+enum-told-2 : tie.Need-enum-told-2
+enum-told-2 c = search needs
+
+any-open-requires : tie.Need-any-open-requires
+any-open-requires c κs = search needs
+
+returns : tie.Need-returns
+returns c =
+    let j = c .before .before .before .before in
+    rw (← j .before .before .lesser .ensures)
+    (decide-conflict _ _ _ _ _ (j .before .statuses .ensures) _ _ (j .judge .ensures) (c .before .before .enum-told2 .given .1) (sym (c .before .any-open .ensures) ∙ not-true _ (c .if1 .taken)))
+
+lesser-requires-2 : tie.Need-lesser-requires-2
+lesser-requires-2 c κs = search needs
+
+cast-top : tie.Need-cast-top
+cast-top c = search needs
+
+bit-to-test-requires : tie.Need-bit-to-test-requires
+bit-to-test-requires c κs = search needs
+
+cast-t19 : tie.Need-cast-t19
+cast-t19 c = search needs
+
+returns-2 : tie.Need-returns-2
+returns-2 c = rw (← c .before .before .before .before .before .lesser .ensures) (named c .0)
+
+returns-3 : tie.Need-returns-3
+returns-3 c =
+    let j = c .before .before in
+    rw (← j .before .before .lesser .ensures) (decide-nothing _ _ _ _ _ (j .before .statuses .ensures) _ _ (j .judge .ensures) (c .enum-told .given .1))
+
+returns-4 : tie.Need-returns-4
+returns-4 c =
+    let o = c .before .before .before in
+    let j = o .before .before .before in
+    rw (← j .before .before .lesser .ensures, ← c .before .lesser2 .ensures)
+    (decide-test _ _ _ _ _ (j .before .statuses .ensures) _ _ (j .judge .ensures) _ (o .before .enum-told2 .given .1) (sym (o .any-open .ensures) ∙ not-false _ (c .before .before .if1 .left)) (c .bit-to-test .ensures .0))
+
+pub decide-spec : {M : Type 1} → statement M
+decide-spec =
+    tie.close
+    (tie.spec
+    lesser-requires
+    statuses-requires
+    judge-requires
+    enum-known-verdict
+    cast-t14
+    enum-told
+    enum-told-2
+    any-open-requires
+    returns
+    lesser-requires-2
+    cast-top
+    bit-to-test-requires
+    cast-t19
+    returns-2
+    returns-3
+    returns-4)

@@ -1,0 +1,221 @@
+// What patterns, conditions and entries are in a cell.
+use crate::Status;
+ghost use mathlib.Core.Path.{_≡_};
+ghost use Prim.Native.Nat.{_+_, _*_, _≤_, _<_, _^_};
+ghost use Rattle.words.specs.Tests.{anyOf, allOf};
+ghost use Rattle.table.specs.Table.{patternAt, unmatchingAt, conditionAt, conditionsAt, entryAt, unmatchingOf, fieldsOf};
+ghost use Rattle.cell.specs.Cell.{implies, clashes, holds as holdsIn, fails as failsIn};
+ghost use Rattle.cell.specs.Decide.{cell, statusOf, isLive, isSure, isOpen, Stated};
+
+// Bits 3 to 0 of a head word: how many conditions, or unmatching patterns, follow.
+pub fn followers(head: u32) -> usize
+    ensures { λ r. ⌜ (r ≡ unmatchingOf head) × (r ≤ 15) ⌝ }
+{
+    words::part(head, 0, 4) as usize
+}
+
+// Bits 7 to 4 of an entry's head word.
+pub fn fields(head: u32) -> usize
+    ensures { λ r. ⌜ (r ≡ fieldsOf head) × (r ≤ 15) ⌝ }
+{
+    words::part(head, 4, 4) as usize
+}
+
+// Whether the cell implies the pattern at p.
+fn is_implied(table: &[u32], p: usize, fixed: u32, bits: u32) -> bool
+    requires { ⌜ p < 2 ^ 63 ⌝ }
+    ensures { λ r. ⌜ r ≡ implies (cell fixed bits) (patternAt (now (table .entry)) p) ⌝ }
+{
+    let mask = words::word_at(table, p);
+    if fixed & mask != mask {
+        return false;
+    }
+    bits & mask == words::word_at(table, p + 1)
+}
+
+// Whether the cell clashes with the pattern at p.
+fn is_clash(table: &[u32], p: usize, fixed: u32, bits: u32) -> bool
+    requires { ⌜ p < 2 ^ 63 ⌝ }
+    ensures { λ r. ⌜ r ≡ clashes (cell fixed bits) (patternAt (now (table .entry)) p) ⌝ }
+{
+    let common = fixed & words::word_at(table, p);
+    bits & common != words::word_at(table, p + 1) & common
+}
+
+// Whether the cell clashes with each of the n unmatching patterns from p on.
+fn all_clash(table: &[u32], n: usize, p: usize, fixed: u32, bits: u32) -> bool
+    requires { ⌜ p + 3 * n < 2 ^ 63 ⌝ }
+    ensures { λ r. ⌜ r ≡ allOf (clashes (cell fixed bits)) (unmatchingAt (now (table .entry)) n p) ⌝ }
+{
+    let mut left = n;
+    let mut at = p;
+    while 0 < left {
+        if !is_clash(table, at + 1, fixed, bits) {
+            return false;
+        }
+        left -= 1;
+        at += 3;
+    }
+    true
+}
+
+// Whether the cell implies one of the n unmatching patterns from p on.
+fn any_implied(table: &[u32], n: usize, p: usize, fixed: u32, bits: u32) -> bool
+    requires { ⌜ p + 3 * n < 2 ^ 63 ⌝ }
+    ensures { λ r. ⌜ r ≡ anyOf (implies (cell fixed bits)) (unmatchingAt (now (table .entry)) n p) ⌝ }
+{
+    let mut left = n;
+    let mut at = p;
+    while 0 < left {
+        if is_implied(table, at + 1, fixed, bits) {
+            return true;
+        }
+        left -= 1;
+        at += 3;
+    }
+    false
+}
+
+// Whether the condition at p holds in the cell.
+pub fn holds(table: &[u32], p: usize, fixed: u32, bits: u32) -> bool
+    requires { ⌜ p < 2 ^ 62 ⌝ }
+    ensures { λ r. ⌜ r ≡ holdsIn (cell fixed bits) (conditionAt (now (table .entry)) p) ⌝ }
+{
+    if !is_implied(table, p + 1, fixed, bits) {
+        return false;
+    }
+    all_clash(
+        table,
+        followers(words::word_at(table, p)),
+        p + 3,
+        fixed,
+        bits,
+    )
+}
+
+// Whether the condition at p fails in the cell.
+pub fn fails(table: &[u32], p: usize, fixed: u32, bits: u32) -> bool
+    requires { ⌜ p < 2 ^ 62 ⌝ }
+    ensures { λ r. ⌜ r ≡ failsIn (cell fixed bits) (conditionAt (now (table .entry)) p) ⌝ }
+{
+    if is_clash(table, p + 1, fixed, bits) {
+        return true;
+    }
+    any_implied(
+        table,
+        followers(words::word_at(table, p)),
+        p + 3,
+        fixed,
+        bits,
+    )
+}
+
+// Whether one of the n conditions from p on holds in the cell.
+fn any_holds(table: &[u32], n: usize, p: usize, fixed: u32, bits: u32) -> bool
+    requires { ⌜ p + 48 * n < 2 ^ 62 ⌝ }
+    ensures { λ r. ⌜ r ≡ anyOf (holdsIn (cell fixed bits)) (conditionsAt (now (table .entry)) n p) ⌝ }
+{
+    let mut left = n;
+    let mut at = p;
+    while 0 < left {
+        if holds(table, at, fixed, bits) {
+            return true;
+        }
+        left -= 1;
+        at += 3 + 3 * followers(words::word_at(table, at));
+    }
+    false
+}
+
+// Whether each of the n conditions from p on fails in the cell.
+fn all_fail(table: &[u32], n: usize, p: usize, fixed: u32, bits: u32) -> bool
+    requires { ⌜ p + 48 * n < 2 ^ 62 ⌝ }
+    ensures { λ r. ⌜ r ≡ allOf (failsIn (cell fixed bits)) (conditionsAt (now (table .entry)) n p) ⌝ }
+{
+    let mut left = n;
+    let mut at = p;
+    while 0 < left {
+        if !fails(table, at, fixed, bits) {
+            return false;
+        }
+        left -= 1;
+        at += 3 + 3 * followers(words::word_at(table, at));
+    }
+    true
+}
+
+// What the entry at p is in the cell.
+fn status_at(table: &[u32], p: u32, fixed: u32, bits: u32) -> Status
+    ensures { λ r. ⌜ r ≡ statusOf (cell fixed bits) (entryAt (now (table .entry)) p) ⌝ }
+{
+    let at = p as usize;
+    if is_clash(table, at + 1, fixed, bits) {
+        return Status::Dead;
+    }
+    let head = words::word_at(table, at);
+    let n = followers(head);
+    let first = at + 3 + fields(head);
+    if any_holds(table, n, first, fixed, bits) {
+        return Status::Dead;
+    }
+    if !is_implied(table, at + 1, fixed, bits) {
+        return Status::Open;
+    }
+    if all_fail(table, n, first, fixed, bits) {
+        return Status::Sure;
+    }
+    Status::Open
+}
+
+// What each of the entries at these places is in the cell.
+pub fn statuses(
+    table: &[u32],
+    places: &[u32; 256],
+    count: usize,
+    fixed: u32,
+    bits: u32,
+) -> [Status; 256]
+    requires { ⌜ count ≤ 256 ⌝ }
+    ensures { λ r. ⌜ Stated (now (table .entry)) (now (places .entry)) count (cell fixed bits) r ⌝ }
+{
+    let mut s = [Status::Dead; 256];
+    let mut j: usize = 0;
+    while j < count {
+        s[j] = status_at(table, places[j], fixed, bits);
+        j += 1;
+    }
+    s
+}
+
+// Whether the entry is live: sure or open.
+pub fn is_live(s: Status) -> bool
+    ensures { λ r. ⌜ r ≡ isLive s ⌝ }
+{
+    match s {
+        Status::Dead => false,
+        Status::Sure => true,
+        Status::Open => true,
+    }
+}
+
+// Whether the entry is sure.
+pub fn is_sure(s: Status) -> bool
+    ensures { λ r. ⌜ r ≡ isSure s ⌝ }
+{
+    match s {
+        Status::Dead => false,
+        Status::Sure => true,
+        Status::Open => false,
+    }
+}
+
+// Whether the entry is open.
+pub fn is_open(s: Status) -> bool
+    ensures { λ r. ⌜ r ≡ isOpen s ⌝ }
+{
+    match s {
+        Status::Dead => false,
+        Status::Sure => false,
+        Status::Open => true,
+    }
+}
