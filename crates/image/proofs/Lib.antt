@@ -2,3 +2,4 @@ pub mod Leading
 pub mod Filling
 pub mod Picking
 pub mod Admitting
+pub mod Examples
