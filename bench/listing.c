@@ -6,7 +6,7 @@
  *
  *   gcc -std=c11 -O2 -Wall -Wextra bench/listing.c -o listing                                    the C side alone
  *   gcc -std=c11 -O2 -DKILNUMBER_LIST -Iinclude bench/listing.c libkilnumber.a -o listing        with the proved side
- *   gcc -std=c11 -O2 -DKILNUMBER_LIST -DSTAND_IN bench/listing.c -o listing                      no library, to try the harness
+ *   gcc -std=c11 -O2 -DKILNUMBER_LIST -DSTAND_IN -Iinclude bench/listing.c -o listing                      no library, to try the harness
  *
  * With the proved side it also compares every item, and asks for what probe's input can't hold: images of 2,097,152 bytes
  * and more. It exits with status 1 at a difference.
@@ -18,6 +18,10 @@
 #include <stdlib.h>
 #include <string.h>
 #include <time.h>
+
+#ifdef KILNUMBER_LIST
+#include "kilnumber.h"
+#endif
 
 #define REPEATS 15
 #define MOST_BYTES 2097152u
@@ -116,19 +120,10 @@ struct listed {
 };
 
 #ifdef KILNUMBER_LIST
-/*
- * STUB: the proved lister's C call doesn't exist yet. This is the shape that is assumed here; when it comes, take its
- * declaration from include/kilnumber.h in place of the next line, and change proved_list, the only function that calls it.
- *
- *   result: the number of items in bits 31-0, the number of the refusal in bits 39-32
- */
-uint64_t kilnumber_list(const uint8_t *table, size_t table_bytes, const uint8_t *tree, size_t tree_bytes, const uint8_t *image,
-                        size_t image_bytes, uint32_t *buffer, size_t buffer_words);
-
-static struct listed proved_list(struct bytes table, struct bytes tree, const uint8_t *image, size_t image_bytes,
+static struct listed proved_list(struct words table, struct words tree, const uint8_t *image, size_t image_bytes,
                                  uint32_t *buffer, size_t room) {
     uint64_t result = kilnumber_list(table.at, table.count, tree.at, tree.count, image, image_bytes, buffer, room);
-    struct listed listed = {(uint32_t)(result >> 32 & 0xff), (size_t)(result & 0xffffffff)};
+    struct listed listed = {kilnumber_number(result), kilnumber_items(result)};
     return listed;
 }
 #endif
@@ -238,7 +233,7 @@ static void check_words_after(const uint32_t *buffer, size_t from, size_t room) 
 }
 
 /* Sizes that probe's input can't hold. The image's bytes are followed by three more. */
-static void check_limits(struct bytes table, struct bytes tree, const uint8_t *image, const uint32_t *wanted, size_t items,
+static void check_limits(struct words table, struct words tree, const uint8_t *image, const uint32_t *wanted, size_t items,
                          uint32_t *buffer, size_t room) {
     fill(buffer, room);
     expect("2,097,152 bytes, exact buffer", proved_list(table, tree, image, MOST_BYTES, buffer, items), 0, items);
@@ -264,10 +259,9 @@ static void check_limits(struct bytes table, struct bytes tree, const uint8_t *i
 #define WRONG 0
 #endif
 
-uint64_t kilnumber_list(const uint8_t *table, size_t table_bytes, const uint8_t *tree, size_t tree_bytes, const uint8_t *image,
-                        size_t image_bytes, uint32_t *buffer, size_t buffer_words) {
-    struct bytes table_lent = {(uint8_t *)table, table_bytes}, tree_lent = {(uint8_t *)tree, tree_bytes};
-    struct words table_words = words_of(table_lent), tree_words = words_of(tree_lent);
+uint64_t kilnumber_list(const uint32_t *table, size_t table_count, const uint32_t *tree, size_t tree_count,
+                        const uint8_t *image, size_t image_bytes, uint32_t *buffer, size_t buffer_words) {
+    struct words table_words = {(uint32_t *)table, table_count};
     uint8_t lengths[256];
     read_lengths(table_words, lengths);
     uint64_t result;
@@ -275,22 +269,21 @@ uint64_t kilnumber_list(const uint8_t *table, size_t table_bytes, const uint8_t 
         result = (uint64_t)16 << 32;
     } else {
         if (WRONG == 2) lengths[0] = 48 - lengths[0]; /* 2: one entry has the other length */
-        size_t items = list_in_c(tree_words.at, tree_words.count, lengths, image, image_bytes, buffer, buffer_words);
+        size_t items = list_in_c(tree, tree_count, lengths, image, image_bytes, buffer, buffer_words);
         if (WRONG == 3 && items != REFUSED) buffer[items] = 0; /* 3: the word after the items is changed */
         if (WRONG == 4 && items == REFUSED) buffer[0] = 0;     /* 4: the buffer doesn't hold the earlier items */
         if (WRONG == 5 && items != REFUSED) buffer[items - 1] &= ~(1u << 19); /* 5: addresses of nineteen bits */
         result = items == REFUSED ? (uint64_t)17 << 32 : (uint64_t)items;
     }
-    free(table_words.at);
-    free(tree_words.at);
     return result;
 }
 #endif
 
 int main(int arguments, char **argument) {
     if (arguments != 5) stop("usage: listing table tree image start");
-    struct bytes table_bytes = read_file(argument[1]), tree_bytes = read_file(argument[2]), image = read_file(argument[3]);
-    struct words table = words_of(table_bytes), tree = words_of(tree_bytes), start = words_of(read_file(argument[4]));
+    struct words table = words_of(read_file(argument[1])), tree = words_of(read_file(argument[2]));
+    struct bytes image = read_file(argument[3]);
+    struct words start = words_of(read_file(argument[4]));
     uint8_t lengths[256] = {0};
     read_lengths(table, lengths);
     if (image.count != MOST_BYTES) stop("the image is not of 2,097,152 bytes");
@@ -306,7 +299,7 @@ int main(int arguments, char **argument) {
     if (items == REFUSED) stop("the C side refuses the image");
     print_kinds(in_c, items, lengths);
 #ifdef KILNUMBER_LIST
-    check_limits(table_bytes, tree_bytes, image.at, in_c, items, proved, room);
+    check_limits(table, tree, image.at, in_c, items, proved, room);
 #endif
 
     /* The sides take turns, so that what else the machine does meets both. */
@@ -318,13 +311,13 @@ int main(int arguments, char **argument) {
         if (again != items) stop("the C side changed its mind");
 #ifdef KILNUMBER_LIST
         before = seconds();
-        struct listed listed = proved_list(table_bytes, tree_bytes, image.at, image.count, proved, room);
+        struct listed listed = proved_list(table, tree, image.at, image.count, proved, room);
         proved_taken[turn] = seconds() - before;
         expect("a timed listing", listed, 0, items);
         if (memcmp(in_c, proved, 4 * items) != 0) stop("the items differ");
         before = seconds();
         /* Reading the table and checking the tree, which the C side doesn't do: an image without bytes. */
-        expect("no image", proved_list(table_bytes, tree_bytes, image.at, 0, proved, room), 0, 0);
+        expect("no image", proved_list(table, tree, image.at, 0, proved, room), 0, 0);
         setup_taken[turn] = seconds() - before;
 #endif
     }
@@ -339,7 +332,6 @@ int main(int arguments, char **argument) {
 #else
     (void)proved_taken;
     (void)setup_taken;
-    (void)tree_bytes;
     printf("ratio: not measured, the proved side is not linked (KILNUMBER_LIST)\n");
 #endif
     return 0;
