@@ -79,7 +79,7 @@ pub fn decode(ws: &[u32], word: u32, out: &mut [u32]) -> Decoding
 }
 
 // The word made, or the index of the first value that does not fit its field.
-pub enum Making {
+enum Making {
     Word(u32),
     Misfit(u32),
 }

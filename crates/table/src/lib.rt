@@ -7,7 +7,7 @@ ghost use Rattle.table.specs.Check.{fine, patternCheck, unmatchingCheck,
 ghost use Rattle.table.specs.Answer.{step, AllPlaced, Refusal, Reads};
 
 // On to the next place, or the first fault: its number and its place.
-pub enum Step {
+enum Step {
     Next(usize),
     Fault(u32, usize),
 }
@@ -250,7 +250,7 @@ fn entry(ws: &[u32], width: u32, p: usize) -> Step
 }
 
 // The end of the entries, or the first fault; and each entry's place up to there.
-pub struct Places {
+struct Places {
     pub step: Step,
     pub at: [u32; 256],
 }
