@@ -1,4 +1,4 @@
-/* The walk of a decode tree, for programs in C. */
+/* The walk of a decode tree, and the listing of an image, for programs in C. */
 
 #ifndef KILNUMBER_H
 #define KILNUMBER_H
@@ -48,6 +48,36 @@ static inline uint32_t kilnumber_tests(uint64_t result) { return (uint32_t)(resu
 
 /* After number 9 the index of the damaged node. */
 static inline uint32_t kilnumber_place(uint64_t result) { return (uint32_t)(result >> 48); }
+
+/*
+ * Lists a whole image by a pattern table and a tree of it.
+ *
+ * `table` and `tree` point to 32-bit words in the machine's own order, `image` to bytes, each halfword low byte first. No
+ * pointer may be null, also with length 0, and `items` may not overlap what the others point to. The tree is checked against
+ * the table once, before the first item; with a tree that mktree or generating wrote for this table the check says yes.
+ *
+ * Each item is a word of `items`: kind 12 in bits 31-28 with the entry in 27-20, kind 13 for nothing, kind 14 for a 32-bit
+ * entry that lacks its second half; the halfword address in bits 19-0.
+ *
+ * The result's bits:
+ *
+ *  31-0    the number of items; after number 17 the halfword address of the first item left out; after 1 to 4 the place
+ *  39-32   the number of the refusal, 0 if there is none:
+ *            1 to 4  the table is at fault
+ *            15      the table's width is not 32, or a length not 16 or 32
+ *            16      the image has an odd number of bytes, or over 2,097,152
+ *            14      the tree is not right for the table
+ *            17      more items than `room`; `items` holds the earlier ones
+ *          (looked for in this order)
+ *  63-40   zero
+ *
+ * After 0 and 17 only the words of the items written are changed, else none.
+ */
+uint64_t kilnumber_list(const uint32_t *table, size_t table_words, const uint32_t *tree, size_t tree_words,
+                        const uint8_t *image, size_t image_bytes, uint32_t *items, size_t room);
+
+/* The number of items, or the place that goes with the refusal. kilnumber_number gives the number here too. */
+static inline uint32_t kilnumber_items(uint64_t result) { return (uint32_t)(result & 0xffffffff); }
 
 #ifdef __cplusplus
 }

@@ -35,7 +35,8 @@ def bytes_of(data):
 
 def request_of(question):
     """The words of a request. A question is ("read", table), ("lookup", table, word), ("generate", table, buffer),
-    ("walk bytes", bytes, word), ("decode", table, word, buffer), ("encode", table, entry, values) or ("walk", tree, word)."""
+    ("walk bytes", bytes, word), ("decode", table, word, buffer), ("encode", table, entry, values), ("check", table, tree),
+    ("step", table, tree, image, address), ("list", table, tree, image, buffer) or ("walk", tree, word)."""
     name, first, *rest = question
     if name == "read":
         return [1, *run_of(first)]
@@ -49,6 +50,12 @@ def request_of(question):
         return [5, *run_of(first), rest[0], *run_of(rest[1])]
     if name == "encode":
         return [6, *run_of(first), rest[0], *run_of(rest[1])]
+    if name == "check":
+        return [7, *run_of(first), *run_of(rest[0])]
+    if name == "step":
+        return [8, *run_of(first), *run_of(rest[0]), *bytes_of(rest[1]), rest[2]]
+    if name == "list":
+        return [9, *run_of(first), *run_of(rest[0]), *bytes_of(rest[1]), *run_of(rest[2])]
     if name == "walk":
         return [10, *run_of(first), rest[0]]
     raise ValueError(name)

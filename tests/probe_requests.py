@@ -1,4 +1,4 @@
-"""Tests of the framing of requests 2 to 6 and 10 (probe-format.md): cut after each word, counts too large, trailing
+"""Tests of the framing of requests 2 to 10 (probe-format.md): cut after each word, counts too large, trailing
 bytes, and lines longer than probe's line buffer. Whole requests get the second implementation's line.
 
 Usage: probe_requests.py [path of probe]. Exits with status 1 at the first difference. It stands beside probe.py.
@@ -12,6 +12,9 @@ from second.lines import line_of
 PRINTED = [0x10010002, 0x20050210, 0x00000002, 0x00000002, 0x30000001]
 TREE = [0x70020003, 0x80800003, 0xA0000000, 0x90000000]
 EIGHT = [0x11111111 * k for k in range(1, 9)]
+IMAGE_TABLE = [0x10010020, 0x20001010, 0x80000000, 0x00000000, 0x3000100F]     # width 32, a 16-bit entry 0---..
+IMAGE_TREE = [0x70200003, 0x8F800003, 0x90000000, 0xA0000000]
+IMAGE = b"\x34\x12\x01\x80\xff\x7f"                                           # six bytes: two of padding
 WORDS_IN_FULL_INPUT = 262144
 
 QUESTIONS = [
@@ -21,6 +24,12 @@ QUESTIONS = [
     ("generate", PRINTED, EIGHT), ("generate", PRINTED, EIGHT[:3]), ("generate", [], EIGHT[:2]), ("generate", PRINTED, []),
     ("walk bytes", probe.pack(TREE), 3), ("walk bytes", probe.pack(TREE)[:15], 3), ("walk bytes", b"", 0),
     ("walk", TREE, 3), ("walk", TREE, 4), ("walk", [], 0),
+    ("check", PRINTED, TREE), ("check", PRINTED, TREE[:3]), ("check", [], []),
+    ("step", IMAGE_TABLE, IMAGE_TREE, IMAGE, 2), ("step", IMAGE_TABLE, IMAGE_TREE, IMAGE, 0xFFFFFFFF),
+    ("step", IMAGE_TABLE, [], IMAGE[:4], 0), ("step", IMAGE_TABLE, IMAGE_TREE, IMAGE[:5], 0), ("step", [], [], b"", 0),
+    ("list", IMAGE_TABLE, IMAGE_TREE, IMAGE, EIGHT[:4]), ("list", IMAGE_TABLE, IMAGE_TREE, IMAGE[:4], EIGHT[:1]),
+    ("list", IMAGE_TABLE, IMAGE_TREE, IMAGE[:3], EIGHT[:2]), ("list", IMAGE_TABLE, IMAGE_TREE, b"", []),
+    ("list", [], [], b"", []),
 ]
 TOO_LARGE = (6, 7, 0x100, 262144, 0x3FFFFFFF, 0x40000000, 0x40000005, 0x7FFFFFFF, 0x80000000, 0xFFFFFFFA, 0xFFFFFFFB,
              0xFFFFFFFC, 0xFFFFFFFD, 0xFFFFFFFE, 0xFFFFFFFF)
@@ -46,13 +55,19 @@ def whole_and_cut():
 
 def counts_too_large():
     for count in TOO_LARGE:
-        for number in (2, 3, 5, 6, 10):
+        for number in (2, 3, 5, 6, 7, 8, 9, 10):
             yield number, probe.pack([number, count, *PRINTED]), ["stopped 0"]
             yield number, probe.pack([1, 0, number, count, *PRINTED]), ["1 1 0 00000000", "stopped 2"]
         for number in (5, 6):
             yield number, probe.pack([number, 5, *PRINTED, 3, count]), ["stopped 0"]
             yield number, probe.pack([number, 5, *PRINTED, 3, count, 1, 2, 3, 4, 5]), ["stopped 0"]
         yield 3, probe.pack([3, 5, *PRINTED, count, 1, 2, 3, 4, 5]), ["stopped 0"]
+        for number in (7, 8, 9):
+            yield number, probe.pack([number, 5, *PRINTED, count, *TREE[:4]]), ["stopped 0"]
+        for number in (8, 9):
+            # bytes, then the address or the buffer's count: after 16 bytes there is no word left for it
+            yield number, probe.pack([number, 5, *PRINTED, 4, *TREE, max(count, 13), 1, 2, 3, 4]), ["stopped 0"]
+        yield 9, probe.pack([9, 5, *PRINTED, 4, *TREE, 3, 1, count, 1, 2, 3, 4, 5]), ["stopped 0"]
         # a tree as bytes and the word after it: five words hold 16 bytes and the word
         yield 4, probe.pack([4, max(count, 17), *PRINTED]), ["stopped 0"]
 

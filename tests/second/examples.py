@@ -461,3 +461,170 @@ TREE_EXAMPLES = [
 
 # "For the words, in hexadecimal, ... it prints"
 PRINTED_TEXT = "0 70020003\n1 80800003\n2 a0000000\n3 90000000\n"
+
+
+# ---------------------------------------------------------------------------- the checker
+
+def check(words, tree):
+    return ("check", words, table(tree) if isinstance(tree, str) else tree)
+
+
+# Width 2, one entry 01.
+ZERO_ONE = table("10010002 20050200 00000003 00000001")
+
+# Bit 3 first, then all of bits 2 to 0: only there every condition of EIGHT_UNMATCHING fails.
+EIGHT_UNMATCHING_TREE = table("""70040011 81800003 a0000000
+    8100000b 80800008 80000007 90000000 90000000 8000000a 90000000 90000000
+             8080000f 8000000e 90000000 90000000 80000011 90000000 90000000""")
+
+ACCEPTED, SAYS_NO = "7 0 0 00000000 yes", "7 14 0 00000000"
+
+# (what it shows, the question, the line)
+CHECK_EXAMPLES = [
+    ("the printed tree", check(PRINTED, PRINTED_TREE), ACCEPTED),
+    ("the worked tree", check(WORKED, WORKED_TREE), ACCEPTED),
+    ("0-0 added, its tree", check(WITH_THIRD, WITH_THIRD_TREE), ACCEPTED),
+    ("no entries, nothing", check([0x10000020], "70200001 a0000000"), ACCEPTED),
+    ("no entries, a name", check([0x10000020], "70200001 90000000"), SAYS_NO),
+    ("words lent after the tree", check(PRINTED, PRINTED_TREE + [0xFFFFFFFF, 0]), ACCEPTED),
+    # 1: bit 0; 2 and 5: bit 1; so the same entries, but not the tree that is generated.
+    ("bit 0 first", check(PRINTED, "70020007 80000005 80800004 a0000000 90000000 80800007 a0000000 90000000"), ACCEPTED),
+    ("a test more than needed", check(PRINTED, "70020005 80800003 a0000000 80000005 90000000 90000000"), ACCEPTED),
+    ("bit 0 first, one leaf wrong",
+     check(PRINTED, "70020007 80000005 80800004 a0000000 90000000 80800007 90000000 a0000000"), SAYS_NO),
+
+    # Header good. A walk would say 8; the checker says 14.
+    ("no tree", check(PRINTED, []), SAYS_NO),
+    ("a header alone", check(PRINTED, "70020003"), SAYS_NO),
+    ("a header of kind 8", check(PRINTED, "80020003 80800003 a0000000 90000000"), SAYS_NO),
+    ("a header of kind 6", check(PRINTED, "60020003 80800003 a0000000 90000000"), SAYS_NO),
+    ("a header with bit 22 set", check(PRINTED, "70420003 80800003 a0000000 90000000"), SAYS_NO),
+    ("a header with bit 27 set", check(PRINTED, "78020003 80800003 a0000000 90000000"), SAYS_NO),
+    ("a tree cut by a word", check(PRINTED, PRINTED_TREE[:3]), SAYS_NO),
+    ("no nodes said", check(PRINTED, "70020000 80800003 a0000000 90000000"), SAYS_NO),
+    # Widths equal.
+    ("width 3 for width 2", check(PRINTED, "70030003 80800003 a0000000 90000000"), SAYS_NO),
+    ("width 2 for width 3, no entries", check([0x10000003], "70020001 a0000000"), SAYS_NO),
+    # No node damaged. A walk would say 9, or not come by.
+    ("an entry with bit 8 set", check(PRINTED, "70020003 80800003 a0000000 90000100"), SAYS_NO),
+    ("nothing with bit 0 set", check(PRINTED, "70020003 80800003 a0000001 90000000"), SAYS_NO),
+    ("a test with bit 16 set", check(PRINTED, "70020003 80810003 a0000000 90000000"), SAYS_NO),
+    ("a leaf of kind 11", check(PRINTED, "70020003 80800003 b0000000 90000000"), SAYS_NO),
+    ("one node fewer said", check(PRINTED, "70020002 80800003 a0000000 90000000"), SAYS_NO),
+    # Each one side begins where the zero side ends. 01: bit 1, then bit 0 below its zero side.
+    ("01, its tree", check(ZERO_ONE, "70020005 80800005 80000004 a0000000 90000000 a0000000"), ACCEPTED),
+    ("01, one nothing for two sides", check(ZERO_ONE, "70020004 80800003 80000004 a0000000 90000000"), SAYS_NO),
+    ("a gap before the one side", check(PRINTED, "70020004 80800004 a0000000 a0000000 90000000"), SAYS_NO),
+    # All nodes are used.
+    ("a nothing more said", check(PRINTED, "70020004 80800003 a0000000 90000000 a0000000"), SAYS_NO),
+    ("no entries, a nothing more said", check([0x10000020], "70200002 a0000000 a0000000"), SAYS_NO),
+    ("the same nothing only lent", check(PRINTED, "70020003 80800003 a0000000 90000000 a0000000"), ACCEPTED),
+    # No path tests a bit twice. The leaves are right for the last test of bit 1.
+    ("bit 1 twice", check(PRINTED, "70020005 80800005 80800004 a0000000 90000000 90000000"), SAYS_NO),
+    # Each named entry is the one of step 1 in its cell.
+    ("the leaves swapped", check(PRINTED, "70020003 80800003 90000000 a0000000"), SAYS_NO),
+    ("entry 1 of one entry", check(PRINTED, "70020003 80800003 a0000000 90000001"), SAYS_NO),
+    ("a lone entry still open", check(PRINTED, "70020001 90000000"), SAYS_NO),
+    ("two names", check(PRINTED, "70020003 80800003 90000000 90000000"), SAYS_NO),
+    ("0-- named where 0-0 is live", check(WITH_THIRD, "70030003 81000003 90000000 a0000000"), SAYS_NO),
+    ("0-- and --0, word 0 named", check(ZERO_HIGH_ZERO_LOW,
+                                        "70030007 81000005 80000004 90000000 90000000 80000007 90000001 a0000000"), SAYS_NO),
+    # Every word with bit 3 set selects entry 0, but its condition is open until bits 2 to 0 are fixed.
+    ("eight unmatching patterns, its tree", check(EIGHT_UNMATCHING, EIGHT_UNMATCHING_TREE), ACCEPTED),
+    ("eight unmatching patterns, named too soon", check(EIGHT_UNMATCHING, "70040003 81800003 a0000000 90000000"), SAYS_NO),
+    # Each nothing has step 2.
+    ("two nothings", check(PRINTED, "70020003 80800003 a0000000 a0000000"), SAYS_NO),
+    ("0-- and --0, word 0 nothing", check(ZERO_HIGH_ZERO_LOW,
+                                          "70030007 81000005 80000004 a0000000 90000000 80000007 90000001 a0000000"), SAYS_NO),
+    # No word selects the entry, but it is live where no bit is fixed.
+    ("eight conditions, nothing at once", check(EIGHT_CONDITIONS, "70040001 a0000000"), SAYS_NO),
+
+    # 1 to 4 come first, whatever the tree is.
+    ("bad table, good tree", check(BAD, PRINTED_TREE), "7 2 5 00000000"),
+    ("bad table, no tree", check(BAD, []), "7 2 5 00000000"),
+    ("empty table", check([], PRINTED_TREE), "7 1 0 00000000"),
+    ("cut table", check(PRINTED[:4], PRINTED_TREE), "7 2 4 00000000"),
+]
+
+
+# ---------------------------------------------------------------------------- images
+
+# Width 32: a 16-bit entry 0---.. with a field on bits 30-16, and a 32-bit entry 10--.. with a field on bits 29-0.
+SHORT_OR_LONG = table("10020020 20001010 80000000 00000000 3000100f 20012010 c0000000 80000000 3000001e")
+SHORT_OR_LONG_TREE = table("70200005 8f800003 90000000 8f000005 90000001 a0000000")
+
+# Width 32: a 16-bit entry 1---.., and a 32-bit entry 1---..-0 that refines it.
+ZERO_BELOW = table("10020020 20001010 80000000 80000000 3000100f 20012010 80000001 80000000 3000011e")
+ZERO_BELOW_TREE = table("70200005 8f800003 a0000000 80000005 90000001 90000000")
+
+# The first table with a length of 24 in its second entry: 10------.. on bits 31-8.
+LENGTH_24 = table("10020020 20001010 80000000 00000000 3000100f 20011810 c0000000 80000000 30000816")
+
+# Halfwords 1234 8001 0002 c000 7fff 9000. At 0 12348001 is entry 0, at 1 80010002 entry 1, at 3 c0007fff nothing,
+# at 4 7fff9000 entry 0, at 5 90000000 entry 1 without its second half.
+SIX_HALVES = bytes.fromhex("3412 0180 0200 00c0 ff7f 0090")
+NO_TREE = table("70200001 a0000000")        # no tree of the tables here
+
+
+def step(words, tree, image, address):
+    return ("step", words, tree, bytes.fromhex(image) if isinstance(image, str) else image, address)
+
+
+def listing(words, tree, image, length):
+    """A listing with this many lent words, 11111111 22222222 and so on."""
+    return ("list", words, tree, bytes.fromhex(image) if isinstance(image, str) else image, LENT[:length])
+
+
+# (what it shows, the question, the line)
+IMAGE_EXAMPLES = [
+    ("six halfwords, 5 words", listing(SHORT_OR_LONG, SHORT_OR_LONG_TREE, SIX_HALVES, 5),
+     "9 0 0 00000000 5 | c0000000 c0100001 d0000003 c0000004 e0000005"),
+    ("six halfwords, 7 words", listing(SHORT_OR_LONG, SHORT_OR_LONG_TREE, SIX_HALVES, 7),
+     "9 0 0 00000000 5 | c0000000 c0100001 d0000003 c0000004 e0000005 66666666 77777777"),
+    ("six halfwords, 4 words", listing(SHORT_OR_LONG, SHORT_OR_LONG_TREE, SIX_HALVES, 4),
+     "9 17 5 00000000 | c0000000 c0100001 d0000003 c0000004"),
+    ("six halfwords, 2 words", listing(SHORT_OR_LONG, SHORT_OR_LONG_TREE, SIX_HALVES, 2), "9 17 3 00000000 | c0000000 c0100001"),
+    ("six halfwords, 1 word", listing(SHORT_OR_LONG, SHORT_OR_LONG_TREE, SIX_HALVES, 1), "9 17 1 00000000 | c0000000"),
+    ("six halfwords, no word", listing(SHORT_OR_LONG, SHORT_OR_LONG_TREE, SIX_HALVES, 0), "9 17 0 00000000 |"),
+    ("no image, no word", listing(SHORT_OR_LONG, SHORT_OR_LONG_TREE, "", 0), "9 0 0 00000000 0 |"),
+    ("no image, 2 words", listing(SHORT_OR_LONG, SHORT_OR_LONG_TREE, "", 2), "9 0 0 00000000 0 | 11111111 22222222"),
+    ("a 16-bit entry at the end", listing(SHORT_OR_LONG, SHORT_OR_LONG_TREE, "ff7f", 1), "9 0 0 00000000 1 | c0000000"),
+    ("nothing at the end", listing(SHORT_OR_LONG, SHORT_OR_LONG_TREE, "00c0", 1), "9 0 0 00000000 1 | d0000000"),
+    ("a 32-bit entry at the end, whole", listing(SHORT_OR_LONG, SHORT_OR_LONG_TREE, "00800000", 2),
+     "9 0 0 00000000 1 | c0100000 22222222"),
+    ("a 32-bit entry at the end, cut", listing(SHORT_OR_LONG, SHORT_OR_LONG_TREE, "0080", 2),
+     "9 0 0 00000000 1 | e0000000 22222222"),
+    ("no entries", listing([0x10000020], NO_TREE, "34120180", 3), "9 0 0 00000000 2 | d0000000 d0000001 33333333"),
+    # 8000 8001: 80008001 has bit 0 set: the 16-bit entry; at 1 the missing half reads as zero: the 32-bit one, cut.
+    ("the missing half reads as zero", listing(ZERO_BELOW, ZERO_BELOW_TREE, "00800180", 2),
+     "9 0 0 00000000 2 | c0000000 e0000001"),
+    # 8001 8000 8001: at 0 80018000 is the 32-bit one; at 2 it is cut.
+    ("the next half is the lower one", listing(ZERO_BELOW, ZERO_BELOW_TREE, "018000800180", 2),
+     "9 0 0 00000000 2 | c0100000 e0000002"),
+
+    *[(f"a step at {address}", step(SHORT_OR_LONG, SHORT_OR_LONG_TREE, SIX_HALVES, address), f"8 0 0 00000000 {said}")
+      # At 2 0002c000 is entry 0: a step may begin inside an instruction.
+      for address, said in enumerate(["c0000000 1", "c0100001 3", "c0000002 3", "d0000003 4", "c0000004 5", "e0000005 6",
+                                      "end", "end"])],
+    *[(f"a step at {address:#x}", step(SHORT_OR_LONG, SHORT_OR_LONG_TREE, SIX_HALVES, address), "8 0 0 00000000 end")
+      for address in (0x10000, 0x7FFFFFFF, 0x80000000, 0x80000001, 0xFFFFFFFE, 0xFFFFFFFF)],
+    ("a step in no image", step(SHORT_OR_LONG, SHORT_OR_LONG_TREE, "", 0), "8 0 0 00000000 end"),
+
+    # Listing: 1 to 4, then 15, 16, 14, 17. A step refuses alike, also past the end.
+    ("a bad table, an odd image", listing(SHORT_OR_LONG + [0], [], "00", 2), "9 2 9 00000000 | 11111111 22222222"),
+    ("a bad table, a step", step(SHORT_OR_LONG + [0], [], "00", 9), "8 2 9 00000000"),
+    ("width 2", listing(PRINTED, PRINTED_TREE, "0080", 1), "9 15 0 00000000 | 11111111"),
+    ("width 2, a step", step(PRINTED, PRINTED_TREE, "0080", 0), "8 15 0 00000000"),
+    ("no entries, width 31", step([0x1000001F], table("701f0001 a0000000"), "0080", 0), "8 15 0 00000000"),
+    ("a length of 24", listing(LENGTH_24, SHORT_OR_LONG_TREE, "0080", 1), "9 15 0 00000000 | 11111111"),
+    ("a length of 24, an odd image, no tree, no word", listing(LENGTH_24, [], "00", 0), "9 15 0 00000000 |"),
+    ("a length of 24, a step past the end", step(LENGTH_24, [], "", 5), "8 15 0 00000000"),
+    ("an odd image", listing(SHORT_OR_LONG, SHORT_OR_LONG_TREE, "340012", 1), "9 16 0 00000000 | 11111111"),
+    ("an odd image, no tree, no word", listing(SHORT_OR_LONG, [], "34", 0), "9 16 0 00000000 |"),
+    ("an odd image, a step past the end", step(SHORT_OR_LONG, SHORT_OR_LONG_TREE, "34", 7), "8 16 0 00000000"),
+    ("no tree", listing(SHORT_OR_LONG, [], "3412", 1), "9 14 0 00000000 | 11111111"),
+    ("another tree, no word", listing(SHORT_OR_LONG, NO_TREE, "3412", 0), "9 14 0 00000000 |"),
+    ("another tree, no image", listing(SHORT_OR_LONG, NO_TREE, "", 2), "9 14 0 00000000 | 11111111 22222222"),
+    ("another tree, a step past the end", step(SHORT_OR_LONG, NO_TREE, "3412", 0xFFFFFFFF), "8 14 0 00000000"),
+    ("words lent after the tree, a step", step(SHORT_OR_LONG, SHORT_OR_LONG_TREE + [7], "0180", 0), "8 0 0 00000000 e0000000 1"),
+]

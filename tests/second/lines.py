@@ -1,6 +1,8 @@
 """The line of probe-format.md that the second implementation gives for a question."""
 
 from second import selection
+from second.checker import check
+from second.image import END, list_items, step
 from second.reader import Refusal, read
 from second.tree import MOST_TREE_WORDS, generate
 from second.walk import walk, walk_bytes
@@ -63,12 +65,34 @@ def encode_line(words, entry, values):
     return f"6 {refusal_text(outcome)} {outcome:08x}"
 
 
+def check_line(words, tree):
+    outcome = check(words, tree)
+    return "7 " + refusal_text(outcome) + result_text(outcome, str(outcome))
+
+
+def step_line(words, tree, image, address):
+    outcome = step(words, tree, image, address)
+    if isinstance(outcome, Refusal):
+        return "8 " + refusal_text(outcome)
+    if outcome == END:
+        return f"8 {refusal_text(outcome)} {END}"
+    item, next_address = outcome
+    return f"8 {refusal_text(outcome)} {item:08x} {next_address}"
+
+
+def list_line(words, tree, image, buffer):
+    outcome, after = list_items(words, tree, image, buffer)
+    return "9 " + refusal_text(outcome) + result_text(outcome, str(outcome)) + " " + buffer_text(after)
+
+
 def line_of(question):
     """A question is ("read", table), ("lookup", table, word), ("generate", table, buffer), ("walk bytes", bytes, word),
-    ("decode", table, word, buffer), ("encode", table, entry, values) or ("walk", tree, word)."""
+    ("decode", table, word, buffer), ("encode", table, entry, values), ("check", table, tree), ("step", table, tree, image,
+    address), ("list", table, tree, image, buffer) or ("walk", tree, word)."""
     name, *parts = question
     makers = {"read": read_line, "lookup": lookup_line, "generate": generate_line, "walk bytes": walk_bytes_line,
-              "decode": decode_line, "encode": encode_line, "walk": walk_line}
+              "decode": decode_line, "encode": encode_line, "check": check_line, "step": step_line, "list": list_line,
+              "walk": walk_line}
     return makers[name](*parts)
 
 

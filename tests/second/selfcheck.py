@@ -10,7 +10,7 @@ from pathlib import Path
 
 sys.path.insert(0, str(Path(__file__).resolve().parent.parent))
 
-from second import examples, selection, tables, tree, walk
+from second import checker, checktrees, examples, image, images, selection, tables, tree, trees, walk
 from second.lines import line_of, mktree_text, read_line
 from second.reader import Refusal, Table, read
 
@@ -24,12 +24,20 @@ def hexadecimal(words):
     return " ".join(f"{word:08x}" for word in words)
 
 
+def line_or_fault(question):
+    """With a mistake made on purpose, an example may also break off."""
+    try:
+        return line_of(question)
+    except (IndexError, KeyError, TypeError, AssertionError) as fault:
+        return f"broken off: {fault!r}"
+
+
 def wrong_examples():
     """The names of the hand-written examples that the second implementation doesn't meet."""
     wrong = [name for name, words, line in examples.READ_EXAMPLES if read_line(words) != line]
-    both = examples.SELECTION_EXAMPLES + examples.TREE_EXAMPLES
-    both += [("the bit of the most masks", ("generate", MOST_MASKS, [0] * 6), MOST_MASKS_LINE)]
-    wrong += [name for name, question, line in both if line_of(question) != line]
+    asked = examples.SELECTION_EXAMPLES + examples.TREE_EXAMPLES + examples.CHECK_EXAMPLES + examples.IMAGE_EXAMPLES
+    asked = asked + [("the bit of the most masks", ("generate", MOST_MASKS, [0] * 6), MOST_MASKS_LINE)]
+    wrong += [name for name, question, line in asked if line_or_fault(question) != line]
     printed = b"".join(word.to_bytes(4, "little") for word in examples.PRINTED)
     if mktree_text(printed) != examples.PRINTED_TEXT:
         wrong.append("what mktree prints")
@@ -40,7 +48,8 @@ def check_examples():
     wrong = wrong_examples()
     if wrong:
         fail(f"example: {wrong[0]}")
-    return len(examples.READ_EXAMPLES) + len(examples.SELECTION_EXAMPLES) + len(examples.TREE_EXAMPLES) + 1
+    return sum(len(some) for some in (examples.READ_EXAMPLES, examples.SELECTION_EXAMPLES, examples.TREE_EXAMPLES,
+                                      examples.CHECK_EXAMPLES, examples.IMAGE_EXAMPLES)) + 1
 
 
 # Document 01's "Mistakes to exclude", and a few neighbours: with each of them made, an example must fail.
@@ -145,13 +154,87 @@ def leaf_counted(outcome):
     return RIGHT["packed"](walk.Walked(outcome.names, outcome.count + 1))
 
 
+def part_left_out(*parts):
+    """Mistake: a part of the checker's rule isn't looked at."""
+    return True
+
+
+def walks_right(table, cell):
+    """Mistake: a leaf is right when all words of its cell select what it says, whatever the steps are."""
+    free = [bit for bit in range(table.width) if bit not in cell.fixed]
+    if len(free) > 8:
+        return RIGHT["first_step"](table, cell)
+    words = [sum(1 << bit for bit in cell.ones) | sum(1 << bit for at, bit in enumerate(free) if choice >> at & 1)
+             for choice in range(1 << len(free))]
+    answers = {selection.select(table, word) for word in words}
+    answer = answers.pop() if len(answers) == 1 else checker.NEITHER
+    return checker.NO_LIVE if answer == selection.NOTHING else answer
+
+
+def named_is_live(steps, placed):
+    """Mistake: a named entry needn't be more specific than others that are live, and needn't be sure."""
+    entries = steps.table.entries
+    return all(checker.named(node) < len(entries) and tree.entry_status(cell, entries[checker.named(node)])[0] != tree.DEAD
+               for node, cell in placed if checker.kind(node) == checker.NAMES)
+
+
+def lower_half_first(halves, address):
+    """Mistake: the next halfword is the word's upper half."""
+    word = RIGHT["word_at"](halves, address)
+    return (word & 0xFFFF) << 16 | word >> 16
+
+
+def last_half_again(halves, address):
+    """Mistake: a missing lower half reads as ones."""
+    return RIGHT["word_at"](halves, address) | (0xFFFF if address + 1 == len(halves) else 0)
+
+
+def high_byte_first(data):
+    """Mistake: a halfword's high byte comes first."""
+    return [(half & 0xFF) << 8 | half >> 8 for half in RIGHT["halfwords"](data)]
+
+
+def cut_as_entry(selecting, halves, address):
+    """Mistake: a 32-bit entry that lacks its second half is listed as kind 12."""
+    entry = selecting.of(image.word_at(halves, address))
+    if entry == selection.NOTHING:
+        return RIGHT["item_at"](selecting, halves, address)
+    return image.item_of(12, entry, address), min(len(halves), address + selecting.length(entry) // 16)
+
+
+def offsets_for_addresses(selecting, halves, address):
+    """Mistake: the item holds the byte offset."""
+    item, next_address = RIGHT["item_at"](selecting, halves, address)
+    return item + address, next_address
+
+
+def unknown_by_two(selecting, halves, address):
+    """Mistake: after nothing the lister goes on by 32 bits."""
+    item, next_address = RIGHT["item_at"](selecting, halves, address)
+    return item, next_address + (item >> 28 == 13)
+
+
+def width_alone(table):
+    """Mistake: lengths are not looked at for 15."""
+    return table.width != 32
+
+
+def tree_first(words, lent, data):
+    """Mistake: 14 comes before 15 and 16."""
+    answer = checker.check(words, lent)
+    return answer if isinstance(answer, Refusal) else RIGHT["refusal_before_items"](words, lent, data)
+
+
 # A table in which the bit of the most masks isn't the highest: 1-0, 0-0 and --1 (bit 0 is in three masks, bit 2 in two).
 MOST_MASKS = examples.table("""10030003 20000310 00000005 00000004 30000101 20000310 00000005 00000000 30000101
     20000310 00000001 00000001 30000102""")
 MOST_MASKS_LINE = "3 0 0 00000000 6 | 70030005 80000005 81000004 90000001 90000000 90000002"
 
 HOMES = {selection: ("satisfied", "more_specific", "select"), tree: ("entry_status", "condition_status", "chosen_bit",
-         "conflict_word"), walk: ("damaged", "header_good", "packed")}
+         "conflict_word"), walk: ("damaged", "header_good", "packed"),
+         checker: ("widths_equal", "none_damaged", "one_sides_begin_right", "all_used", "no_bit_twice", "named_right",
+                   "nothing_right", "first_step"),
+         image: ("word_at", "halfwords", "item_at", "no_image_table", "no_image", "refusal_before_items")}
 RIGHT = {name: getattr(home, name) for home, names in HOMES.items() for name in names}
 MISTAKES = [("satisfied", one_missed_is_enough, "0x00 A"),
             ("satisfied", unmatching_forgotten, "0x00 A"),
@@ -168,7 +251,32 @@ MISTAKES = [("satisfied", one_missed_is_enough, "0x00 A"),
             ("conflict_word", all_ambiguous, "0-0 added, 8 words"),
             ("damaged", any_bit_tested, "the tested bit at the width"),
             ("header_good", no_header, "walk of a cut tree"),
-            ("packed", leaf_counted, "the worked table, walk of 0x00 as bytes")]
+            ("packed", leaf_counted, "the worked table, walk of 0x00 as bytes"),
+            ("widths_equal", part_left_out, "width 3 for width 2"),
+            ("none_damaged", part_left_out, "an entry with bit 8 set"),
+            ("one_sides_begin_right", part_left_out, "01, one nothing for two sides"),
+            ("all_used", part_left_out, "no entries, a nothing more said"),
+            ("no_bit_twice", part_left_out, "bit 1 twice"),
+            ("named_right", part_left_out, "entry 1 of one entry"),
+            ("named_right", named_is_live, "a lone entry still open"),
+            ("nothing_right", part_left_out, "two nothings"),
+            ("first_step", walks_right, "eight unmatching patterns, named too soon"),
+            ("first_step", walks_right, "eight conditions, nothing at once"),
+            ("word_at", lower_half_first, "six halfwords, 5 words"),
+            ("word_at", last_half_again, "the missing half reads as zero"),
+            ("halfwords", high_byte_first, "six halfwords, 5 words"),
+            ("item_at", cut_as_entry, "a 32-bit entry at the end, cut"),
+            ("item_at", offsets_for_addresses, "a step at 1"),
+            ("item_at", unknown_by_two, "six halfwords, 5 words"),
+            ("no_image_table", width_alone, "a length of 24"),
+            ("no_image", part_left_out, "no image, no word"),
+            ("refusal_before_items", tree_first, "an odd image, no tree, no word")]
+
+
+def forget():
+    """What was found with a mistake made must not be found again without it."""
+    for known in (tree.nodes_once, checker.steps_once, checker.first_missing_once, checker.check_once, image.selecting_once):
+        known.cache_clear()
 
 
 def check_mistakes():
@@ -176,10 +284,10 @@ def check_mistakes():
     for name, mistake, example in MISTAKES:
         home = next(home for home, names in HOMES.items() if name in names)
         setattr(home, name, mistake)
-        tree.nodes_once.cache_clear()
+        forget()
         wrong = wrong_examples()
         setattr(home, name, RIGHT[name])
-        tree.nodes_once.cache_clear()
+        forget()
         if example not in wrong:
             fail(f"the mistake {mistake.__name__} isn't noticed by: {example}")
     return len(MISTAKES)
@@ -465,6 +573,130 @@ def check_trees(rng, tally):
             fail(f"only {tally[what]} of {what}")
 
 
+# ---------------------------------------------------------------------------- the checker and the lister
+
+def text_cell(tests, width):
+    cell = ["-"] * width
+    for bit, value in tests:
+        cell[width - 1 - bit] = str(value)
+    return "".join(cell)
+
+
+def accepted_by_paths(words, lent):
+    """The rule once more: by paths, with steps on strings. In a tree each node has one path, and the next node in node
+    order is the one that is come to next when zero sides go first."""
+    table = read(words)
+    if not walk.header_good(lent) or lent[0] >> 16 & 0x3F != table.width:
+        return False
+    nodes = checker.nodes_in(lent)
+    if any(walk.damaged(node, index, table.width, len(nodes)) for index, node in nodes.items()):
+        return False
+    visited, todo = [], [(1, ())]
+    while todo:
+        index, tests = todo.pop()
+        visited.append(index)
+        if len(visited) > len(nodes) or index != len(visited):
+            return False
+        node = nodes[index]
+        if checker.kind(node) == checker.TEST:
+            bit = checker.tested_bit(node)
+            if bit in dict(tests):
+                return False
+            todo += [(checker.one_side(node), tests + ((bit, 1),)), (index + 1, tests + ((bit, 0),))]
+            continue
+        step = text_step(table, text_cell(tests, table.width))
+        if step != ("nothing" if checker.kind(node) == checker.NOTHING else checker.named(node)):
+            return False
+    return len(visited) == len(nodes)
+
+
+def check_answer(words, lent, tally, part=None):
+    """The rule by parts against the rule by paths; a tree made to miss a certain part must miss that one first."""
+    missing = checker.first_missing(words, lent)
+    if (missing is None) != accepted_by_paths(words, lent):
+        fail(f"part {missing} is missing, by paths: {accepted_by_paths(words, lent)}: {hexadecimal(words)}, {hexadecimal(lent)}")
+    if part is not None and missing != part:
+        fail(f"part {missing} is missing and not {part}: {hexadecimal(words)}, {hexadecimal(lent)}")
+    tally[f"missing {missing}"] += 1
+
+
+def check_checker_of(rng, words, width, good, tally):
+    shape = checktrees.shape_at(good, 1)
+    check_answer(words, good, tally)
+    for part, some in ((2, checktrees.other_widths(good)), (4, checktrees.shared_sides(good)),
+                       (5, checktrees.with_unused(rng, good)), (4, checktrees.with_gap(rng, good)),
+                       (6, (checktrees.written(width, one) for one in checktrees.tested_again(rng, shape)))):
+        for lent in some:
+            check_answer(words, lent, tally, part)
+    for change in (checktrees.collapsed(shape), checktrees.sides_swapped(shape), checktrees.leaves_changed(shape, 2)):
+        for changed in change:
+            check_answer(words, checktrees.written(width, changed), tally)
+    other = checktrees.other_shape(rng, read(words), 60)
+    if other is not None:
+        check_answer(words, checktrees.written(width, other), tally)
+        tally["other trees"] += 1
+    for _ in range(10):
+        check_answer(words, trees.flipped(rng, good), tally)
+        check_answer(words, trees.foreign(rng, width, rng.randint(1, 9)), tally)
+
+
+def check_checker(rng, tally):
+    for width in list(range(1, 9)) * 3 + [16, 32]:
+        for plan in tree_plans(rng, width):
+            words = tables.lay_out(plan).words
+            nodes = tree.nodes_of(read(words), 22)
+            if nodes is not None and tree.conflict_word(nodes) is None:
+                check_checker_of(rng, words, width, tree.written(width, nodes), tally)
+    for what, least in (("missing None", 100), ("other trees", 50), *((f"missing {part}", 60) for part in range(2, 9))):
+        if tally[what] < least:
+            fail(f"only {tally[what]} of {what}")
+
+
+def check_items(words, lent, data, tally):
+    """The items of a listing against walks of the tree, and each item's address against the one before."""
+    table, halves = read(words), len(data) // 2
+    count, items = image.list_items(words, lent, data, [0] * halves)
+    address = 0
+    for item in items[:count]:
+        padded = data + bytes(2)
+        upper, lower = (padded[2 * at] | padded[2 * at + 1] << 8 for at in (address, address + 1))
+        named = walk.walk(lent, upper << 16 | lower).names
+        length = 1 if named == selection.NOTHING else table.entries[named].length // 16
+        kind = 13 if named == selection.NOTHING else 14 if address + length > halves else 12
+        if item != kind << 28 | (named << 20 if kind == 12 else 0) | address:
+            fail(f"item {item:08x} at {address}, but the walk names {named}: {hexadecimal(words)}, {data.hex()}")
+        if image.step(words, lent, data, address) != (item, min(address + length, halves)):
+            fail(f"the step at {address} isn't the item {item:08x}: {hexadecimal(words)}, {data.hex()}")
+        address += length
+        tally[f"items {kind}"] += 1
+    if address < halves:
+        fail(f"the listing ends at {address}: {hexadecimal(words)}, {data.hex()}")
+
+
+def check_limits(tally):
+    """2,097,152 bytes are listed, more are 16; probe's input doesn't hold so many."""
+    words, lent = [0x10000020], [0x70200001, 0xA0000000]
+    for size, wanted in ((2097152, 1048576), (2097154, Refusal(16)), (2097153, Refusal(16)), (2097151, Refusal(16))):
+        outcome, after = image.list_items(words, lent, bytes(size), [0] * 1048576)
+        if outcome != wanted or (size == 2097152 and after[-1] != 0xD00FFFFF):
+            fail(f"an image of {size} bytes gives {outcome}")
+        tally["limits"] += 1
+
+
+def check_lister(rng, tally):
+    while tally["listed images"] < 150:
+        plan = images.image_plan(rng)
+        words = tables.lay_out(plan).words
+        nodes = tree.nodes_of(read(words), 150)
+        if nodes is not None:
+            check_items(words, tree.written(plan.width, nodes), images.some_image(rng, plan), tally)
+            tally["listed images"] += 1
+    check_limits(tally)
+    for what, least in (("items 12", 300), ("items 13", 100), ("items 14", 20)):
+        if tally[what] < least:
+            fail(f"only {tally[what]} of {what}")
+
+
 def main():
     rng = random.Random(20250101)
     tally = Counter()
@@ -477,10 +709,14 @@ def main():
     check_double_damages(rng, tally)
     check_round_trips(rng, tally)
     check_trees(rng, tally)
+    check_checker(rng, tally)
+    check_lister(rng, tally)
+    judged = sum(tally[f"missing {part}"] for part in (None, *range(1, 9)))
     print(f"selfcheck good: {example_count} examples, {mistakes} mistakes noticed, {tally['good']} good tables, "
           f"damages by number 1: {tally[1]}, 2: {tally[2]}, 3: {tally[3]}, 4: {tally[4]}, "
           f"{tally['double']} double damages, {tally['round trips']} round trips, {tally['trees']} trees "
-          f"({tally['ambiguous trees']} ambiguous), {tally['walked words']} walked words")
+          f"({tally['ambiguous trees']} ambiguous), {tally['walked words']} walked words, {judged} trees judged twice "
+          f"({tally['missing None']} accepted), {tally['items 12'] + tally['items 13'] + tally['items 14']} items walked")
 
 
 if __name__ == "__main__":

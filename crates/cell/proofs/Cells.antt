@@ -16,7 +16,7 @@ use Rattle.table.specs.Lawful.{goodPattern, goodCondition, goodEntry, goodTable
 use Rattle.table.specs.Table.{Pattern, Condition, Entry, entryNumber}
 use Rattle.selection.specs.Selection.{Choice, names, nothing, ambiguous, matches, satisfied, claims, judge}
 use Rattle.cell.specs.Cell.{Cell, zeroSide, oneSide, implies, clashes, holds, fails, openCondition, dead, live, sure, openEntry}
-use Rattle.cell.specs.Step.{Step, end, split, stepOf, free, votes, inCondition, inOpen, wanted, tested, step}
+use Rattle.cell.specs.Step.{end, split, stepOf, free, votes, inCondition, inOpen, wanted, tested, step}
 use Rattle.words.proofs.Bits.{and-assoc, and-or, and-pow, missing, bit-or, bit-pow, bit-pow-other}
 use Rattle.words.proofs.Logic.{cases, clash, isFalse, and-l, and-r, and-i, and-e, or-l, or-r, or-il, or-ir, or-e, not-t, not-f, not-it, not-if, anyOf-map, allOf-none, exists-at, exists-make, howMany-pos, best-max, best-lt, howMany-less}
 

@@ -8,7 +8,7 @@ use native.Mathlib.Omega.{arith}
 use lib.Dec.{eqb}
 use lib.ListN.{length, getD}
 use borrow.Author.Tests.{eq-eqb, ne-eqb}
-use Rattle.words.specs.Tests.{allOf, _and_, _or_, every, exists, howMany, first, best}
+use Rattle.words.specs.Tests.{allOf, _and_, _or_, exists, howMany, best}
 use Rattle.words.specs.Words.{bit, word}
 use Rattle.table.specs.Lawful.{goodTable}
 use Rattle.table.specs.Ready.{Ready}
@@ -17,12 +17,12 @@ use Rattle.selection.specs.Selection.{Choice, names, nothing, ambiguous, choice
 use Rattle.selection.specs.Places.{placed, givesWay}
 use Rattle.cell.specs.Cell.{Cell, dead, live, sure, openEntry, implies, fails}
 use Rattle.cell.specs.Decide.{statusOf, isLive, isSure, isOpen, statusAt, listed, Stated, beatsAt, winsAt, someLive, someOpen, verdictOf, judgeAt, settledAt, openMask, Masked, votesFor, weightOf, inEntry, inSome, votesAt, wantedAt, testedAt, stepAt, decisionOf}
-use Rattle.cell.specs.Step.{Step, end, split, stepOf, step, votes, wanted, tested, inOpen}
+use Rattle.cell.specs.Step.{Step, end, split, step, votes, wanted, tested, inOpen}
 use Rattle.cell.specs.declared.Decision.{Decision}
 use Rattle.cell.specs.declared.Status.{Status}
 use Rattle.cell.specs.declared.Verdict.{Verdict}
 use Rattle.words.proofs.Bits.{bit-none}
-use Rattle.words.proofs.Logic.{cases, options, every-same, exists-same, first-same, first-some, howMany-same}
+use Rattle.words.proofs.Logic.{cases, every-same, exists-same, first-same, first-some, howMany-same}
 use Rattle.table.proofs.Laws.{length-entries}
 use Rattle.table.proofs.Good.{good-entries}
 use Rattle.table.proofs.Views.{ready-entries, ready-few, ready-wide, ready-at}
@@ -213,8 +213,8 @@ module _ (ws places : List ℕ) (width n : ℕ) (ready : Ready ws places width n
   abbrev es : List Entry
   es = entriesAt ws n 1
 
-  pub good : goodTable width es ≡ true
-  good = good-entries ws width n 1 (ready-entries ws places width n ready)
+  pub ready-good : goodTable width es ≡ true
+  ready-good = good-entries ws width n 1 (ready-entries ws places width n ready)
 
   len : length es ≡ n
   len = length-entries ws n 1
@@ -294,4 +294,4 @@ module _ (ws places : List ℕ) (width n : ℕ) (ready : Ready ws places width n
   names-ready i e = let h = named-lt ws places (min n 256) (min width 32) c i e in omega arith
 
   pub test-ready : (i : ℕ) → Decision.Test i ≡ decisionOf (stepAt ws places (min n 256) (min width 32) c) → (i < width) × (bit (c .fixed) i ≡ false)
-  test-ready i e = split-right _ width (good ws places width n ready) c i (decision-test _ i (e ∙ ap decisionOf step-ready))
+  test-ready i e = split-right _ width (ready-good ws places width n ready) c i (decision-test _ i (e ∙ ap decisionOf step-ready))

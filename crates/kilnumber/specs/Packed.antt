@@ -1,8 +1,13 @@
--- The answer of a walk in 64 bits, for C ('Written form').
+-- The answers of a walk and of a listing in 64 bits, for C ('Written form').
 use Prim.Native.Nat.{ℕ, _+_, _*_, _^_}
+use mathlib.Core.Path.{_≡_}
+use mathlib.Core.List.{List}
 use mathlib.Core.Option.{Option, none, some}
+use lib.ListN.{length}
 use Rattle.table.specs.Outcome.{Outcome, result, refused}
+use Rattle.table.specs.Check.{readTable}
 use Rattle.tree.specs.Walk.{Walk}
+use Rattle.image.specs.Listing.{listOf, bufferOf}
 
 -- "entry in 7–0, bit 8 for nothing"
 abbrev pub named : Option ℕ → ℕ
@@ -13,3 +18,13 @@ named none = 2 ^ 8
 abbrev pub packed : Outcome Walk → ℕ
 packed (result a) = named (a .entry) + a .count * 2 ^ 16
 packed (refused number place w) = number * 2 ^ 32 + place * 2 ^ 48
+
+-- a listing's, which is ours: the number of items, or the place, in 31–0; the number in 39–32 (0 if none)
+abbrev pub packedItems : Outcome ℕ → ℕ
+packedItems (result n) = n
+packedItems (refused number place w) = number * 2 ^ 32 + place
+
+-- listing for C answers what the definition says, and the whole buffer is as the definition says
+pub record ListsPacked (ws tree image before after : List ℕ) (r : ℕ) : Type 0 where
+  pub answer : r ≡ packedItems (listOf (readTable ws) tree image (length before))
+  pub buffer : after ≡ bufferOf (readTable ws) tree image before

@@ -1,9 +1,12 @@
-// The C face: a walk of a tree that is given as bytes, its answer in 64 bits. include/kilnumber.h is its header.
+// The C face: a walk of a tree that is given as bytes, and the listing of an image; each answer in 64 bits. include/kilnumber.h is
+// its header.
+use image::Listed;
 use walker::Walked;
 ghost use mathlib.Core.Path.{_≡_};
 ghost use Prim.Native.Nat.{ℕ};
 ghost use Rattle.walker.specs.Walked.{said, Small, walkBytes};
-ghost use Rattle.kilnumber.specs.Packed.{packed};
+ghost use Rattle.image.specs.Listing.{saidList};
+ghost use Rattle.kilnumber.specs.Packed.{packed, packedItems, ListsPacked};
 
 // An answer in 64 bits.
 fn pack(answer: Walked) -> u64
@@ -26,4 +29,27 @@ pub extern "C" fn kilnumber_walk(tree: &[u8], word: u32) -> u64
 {
     let answer = walker::walk_bytes(tree, word);
     pack(answer)
+}
+
+// A listing's answer in 64 bits.
+fn pack_items(answer: Listed) -> u64
+    ensures { λ r. ⌜ r ≡ packedItems (saidList answer) ⌝ }
+{
+    match answer {
+        Listed::Items(count) => count as u64,
+        Listed::Full(address) => 17 * 4294967296 + (address.0 as u64),
+        Listed::BadTable => 15 * 4294967296,
+        Listed::BadImage => 16 * 4294967296,
+        Listed::BadTree => 14 * 4294967296,
+        Listed::Refused(number, place) => (number as u64) * 4294967296 + (place as u64),
+    }
+}
+
+// What lists an image for C: each slice is a pointer and a length there, in words for the table, the tree and the buffer.
+#[no_mangle]
+pub extern "C" fn kilnumber_list(table: &[u32], tree: &[u32], image: &[u8], out: &mut [u32]) -> u64
+    ensures { λ r. ⌜ ListsPacked (now (table .entry)) (now (tree .entry)) (now (image .entry)) (now (out .entry)) (now (out .exit)) r ⌝ }
+{
+    let answer = image::list(table, tree, image, out);
+    pack_items(answer)
 }

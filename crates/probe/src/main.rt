@@ -302,13 +302,7 @@ fn answer_step(words: &[u32], tree: &[u32], image: &[u8], address: u32) {
 }
 
 // Lists an image into a buffer and puts what comes of it, but for the buffer.
-fn put_listing(
-    line: &mut [u8],
-    words: &[u32],
-    tree: &[u32],
-    image: &[u8],
-    out: &mut [u32],
-) -> usize
+fn put_listing(line: &mut [u8], words: &[u32], tree: &[u32], image: &[u8], out: &mut [u32]) -> usize
     ensures { λ r. ⌜ r ≤ length (now (line .exit)) ⌝ }
 {
     match image::list(words, tree, image, out) {
@@ -405,11 +399,22 @@ fn answer(bytes: &[u8], ws: &[u32], at: usize, room: &mut [u32])
         }
         Request::Check(table, tree) => answer_check(words_in(ws, table), words_in(ws, tree)),
         Request::Step(table, tree, image, address, _) => {
-            answer_step(words_in(ws, table), words_in(ws, tree), bytes_in(bytes, image), address)
+            answer_step(
+                words_in(ws, table),
+                words_in(ws, tree),
+                bytes_in(bytes, image),
+                address,
+            )
         }
         Request::Items(table, tree, image, buffer) => {
             let items = words_in(ws, buffer);
-            answer_list(words_in(ws, table), words_in(ws, tree), bytes_in(bytes, image), items, room)
+            answer_list(
+                words_in(ws, table),
+                words_in(ws, tree),
+                bytes_in(bytes, image),
+                items,
+                room,
+            )
         }
         Request::Walk(tree, word) => answer_walk(words_in(ws, tree), word),
         Request::Stopped => answer_stopped(at as u32),

@@ -3,7 +3,7 @@ use Prim.Native.Nat.{ℕ, zero, suc, _≤_, _<_, _^_, zero-le, suc-le-suc}
 use native.Mathlib.Nat.{le-refl, le-trans, le-of-eq}
 use native.Mathlib.Omega.{arith}
 use mathlib.Core.Path.{_≡_, refl, sym, ap, ap₂, _∙_, subst}
-use mathlib.Core.Bool.{Bool, true, false, not, false≢true}
+use mathlib.Core.Bool.{true, false, not, false≢true}
 use borrow.Author.Tests.{eqb-true}
 use mathlib.Core.List.{List, [], _∷_}
 use mathlib.Core.Option.{Option, none, some}
@@ -17,7 +17,7 @@ use Rattle.table.specs.Lawful.{goodTable}
 use Rattle.table.specs.Table.{Entry, entryNumber}
 use Rattle.selection.specs.Selection.{Choice, names, nothing, ambiguous, claims, judge, select}
 use Rattle.cell.specs.Cell.{Cell, start, zeroSide, oneSide, live, sure, openEntry}
-use Rattle.cell.specs.Step.{Step, end, split, stepOf, free, tested, step}
+use Rattle.cell.specs.Step.{Step, end, split, free, tested, step}
 use Rattle.tree.specs.Tree.{Tree, leaf, test, treeOf, below, tree, answer, asked, isIn, distinct, conflict, orElse, ifConflict}
 use Rattle.words.proofs.Bits.{bit-and, bit-or, bit-pow, and-or, and-pow}
 use Rattle.words.proofs.Logic.{cases, options, clash, isFalse, same, and-i, and-r, or-l, or-ir, or-e, not-it, exists-none, howMany-le}

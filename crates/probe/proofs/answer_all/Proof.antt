@@ -1,4 +1,4 @@
--- `probe::answer_all` is safe and ends: each answer goes on at a larger index. Assumes nothing.
+-- `probe::answer_all` is safe and ends: the next request is at a larger index. Assumes nothing.
 use Prim.Native.Nat.{_-_}
 use mathlib.Core.Path.{_≡_}
 use lib.ListN.{length}
@@ -18,6 +18,9 @@ loop-holds c = search needs
 answer-requires : tie.Need-answer-requires Inv-loop μ-loop
 answer-requires c κs = search needs
 
+next-at-requires : tie.Need-next-at-requires Inv-loop μ-loop
+next-at-requires c κs = search needs
+
 loop-less : tie.Need-loop-less Inv-loop μ-loop
 loop-less c = search needs
 
@@ -33,4 +36,4 @@ returns c = search needs
 pub answer-all-spec : {M : Type 1} → statement M
 answer-all-spec =
     tie.close
-    (tie.spec Inv-loop μ-loop loop-holds answer-requires loop-less loop-again same-length returns)
+    (tie.spec Inv-loop μ-loop loop-holds answer-requires next-at-requires loop-less loop-again same-length returns)

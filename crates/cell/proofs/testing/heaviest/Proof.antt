@@ -1,7 +1,6 @@
 use Rattle.words.specs.Tests.{best}
 use Rattle.cell.specs.Decide.{weightOf}
 use Rattle.cell.proofs.Loops.{best-one, best-end, best-other, best-same}
-use native.Mathlib.Omega.{arith}
 use mathlib.Core.Logic.{⊎-elim}
 use mathlib.Core.Path.{_≡_, sym, ap, _∙_}
 use Prim.Native.Nat.{_+_, _≤_, _-_}

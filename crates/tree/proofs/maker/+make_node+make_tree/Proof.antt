@@ -1,4 +1,4 @@
-use mathlib.Core.Path.{_≡_, refl, sym, ap, _∙_}
+use mathlib.Core.Path.{refl, _∙_}
 use native.Mathlib.Omega.{arith}
 use borrow.Author.Needs.{needs}
 use lib.ListN.{length-set}
@@ -9,7 +9,7 @@ use Rattle.cell.specs.Decide.{cell}
 use Rattle.tree.proofs.Below.{below-names, below-nothing, below-conflict, below-test, test-bounds}
 use Rattle.tree.proofs.Writing.{conflict-word}
 use Rattle.tree.proofs.Makers.{no-room, leaf-made, zero-is-full, next-le, one-is-full, both-written, fewer}
-use Prim.Native.Nat.{ℕ, _+_, _<_, _≤_}
+use Prim.Native.Nat.{ℕ, _+_, _<_}
 use borrow.Fn.Kinds.{In}
 use borrow.Fn.PlainCycle.{Measures, is, falls, and}
 use Rattle.tree.proofs.maker.make_node.Reads as make-node
