@@ -1,19 +1,19 @@
 -- What refuses a listing and a step. Assumes nothing.
 use mathlib.Core.Path.{_≡_, refl, sym, ap, _∙_}
 use mathlib.Core.Bool.{Bool, true, false, cond}
-use mathlib.Core.List.{List, [], _∷_}
-use Prim.Native.Nat.{ℕ, suc, _+_, _%_, _^_, _≤_, _<_}
+use mathlib.Core.List.{List, []}
+use Prim.Native.Nat.{ℕ, suc, _+_, _≤_, _<_}
 use native.Mathlib.Numerals.{add-one}
 use native.Mathlib.Omega.{arith}
-use borrow.Author.Tests.{le-leb, lt-leb, leb-true, eqb-true, eq-eqb, ne-eqb}
-use lib.Dec.{leb, eqb}
+use borrow.Author.Tests.{le-leb, lt-leb, leb-true, eqb-true, ne-eqb}
+use lib.Dec.{eqb}
 use lib.ListN.{length, getD, drop, drop-of-length-le}
 use lib.Seq.{drop-cons}
 use Rattle.words.specs.Tests.{_and_, _or_, allOf}
 use Rattle.words.specs.Words.{word}
-use Rattle.words.proofs.Logic.{cases, clash, and-l, and-r}
+use Rattle.words.proofs.Logic.{cases, and-l, and-r}
 use Rattle.table.specs.Outcome.{Outcome, result, refused}
-use Rattle.table.specs.Table.{Entry, Table, sizeOf, countOf, widthOf, entriesAt, entryNumber, tableOf}
+use Rattle.table.specs.Table.{Entry, sizeOf, entriesAt, entryNumber, tableOf}
 use Rattle.table.specs.Check.{fine, tableCheck, readTable}
 use Rattle.table.specs.Ready.{Ready}
 use Rattle.table.proofs.Laws.{length-entries}
@@ -31,7 +31,7 @@ use Rattle.image.specs.declared.Admission.{Admission}
 use Rattle.image.specs.Address.{halfwords}
 use Rattle.image.specs.Items.{itemAt, items}
 use Rattle.image.specs.Listing.{imageSize, imageTable, imageGood, need, admitted, listFrom, listOf, bufferFrom, bufferOf, saidList, Lists, stepFrom, stepOf, saidStep}
-use Rattle.image.specs.Parts.{Usable, Admitted, saidRefusal, Admits, Fills}
+use Rattle.image.specs.Parts.{Admitted, saidRefusal, Admits, Fills}
 
 -- a result is no refusal
 apart : {n p x : ℕ} {A : Type 0} {v : A} → result v ≡ refused n p x → ⊥

@@ -1,12 +1,11 @@
 -- Laws of items: each leads on, and what they are from an address on. Assumes nothing.
 use mathlib.Core.Path.{_≡_, refl, ap, _∙_}
 use mathlib.Core.List.{List, [], _∷_}
-use Prim.Native.Nat.{ℕ, zero, suc, _+_, _-_, _*_, _/_, _%_, _^_, _≤_, _<_}
+use Prim.Native.Nat.{ℕ, zero, suc, _+_, _-_, _*_, _^_, _≤_, _<_}
 use native.Mathlib.Nat.{le-refl}
 use native.Mathlib.Omega.{arith}
 use borrow.Author.Tests.{lt-ltb, le-ltb, ltb-true, ltb-false}
 use lib.Dec.{ltb}
-use lib.ListN.{getD}
 use Rattle.words.specs.Words.{part, bits}
 use Rattle.words.proofs.Logic.{cases}
 use Rattle.table.specs.Table.{Entry}
@@ -14,7 +13,7 @@ use Rattle.image.specs.declared.HalfwordAddress.{HalfwordAddress}
 use Rattle.image.specs.declared.Item.{Item}
 use Rattle.image.specs.declared.Picked.{Picked}
 use Rattle.image.specs.declared.Picked.the-variants.{Short, Long, Nothing}
-use Rattle.image.specs.Address.{after, halfwordAt, wordAt, halfwords}
+use Rattle.image.specs.Address.{after, wordAt, halfwords}
 use Rattle.image.specs.Items.{picked, foundWord, nothingWord, cutWord, itemOf, itemAt, itemsFrom, items}
 
 -- ---- an item

@@ -5,14 +5,13 @@ use mathlib.Core.Option.{Option, none, some}
 use Prim.Native.Nat.{ℕ, _^_, _<_}
 use native.Mathlib.Omega.{arith}
 use borrow.Author.Tests.{eq-eqb, ne-eqb}
-use lib.Dec.{eqb}
 use lib.ListN.{getD, length}
 use Rattle.words.specs.Words.{word}
-use Rattle.table.specs.Outcome.{Outcome, result, refused}
-use Rattle.table.specs.Table.{Entry, sizeOf, countOf, entriesAt, entryNumber, tableOf}
+use Rattle.table.specs.Outcome.{result, refused}
+use Rattle.table.specs.Table.{Entry, sizeOf, countOf, entryNumber, tableOf}
 use Rattle.table.proofs.Laws.{length-entries}
 use Rattle.table.proofs.Views.{ready-at, ready-place, ready-short}
-use Rattle.selection.specs.Selection.{names, nothing, select}
+use Rattle.selection.specs.Selection.{names, select}
 use Rattle.selection.proofs.Formula.{names-exactly, nothing-exactly}
 use Rattle.tree.specs.Walk.{Walk, named, walkOf}
 use Rattle.tree.proofs.Demand.{Right}

@@ -36,7 +36,7 @@ struct Item {
     pub next: HalfwordAddress,
 }
 
-// What refuses a listing and a step alike.
+// What refuses a listing and a step alike; ready where nothing does.
 enum Refusal {
     Ready,
     BadTable,

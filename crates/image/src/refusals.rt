@@ -13,7 +13,7 @@ ghost use Rattle.tree.specs.Checker.{accepts};
 ghost use Rattle.image.specs.Listing.{imageTable, imageGood, admitted};
 ghost use Rattle.image.specs.Parts.{saidRefusal, Admits};
 
-// Whether an entry of an image table has this many bits.
+// Whether an entry of a table for images may have this length.
 fn image_size(size: u32) -> bool
     ensures { λ r. ⌜ r ≡ eqb size 16 or eqb size 32 ⌝ }
 {
@@ -23,7 +23,7 @@ fn image_size(size: u32) -> bool
     size == 32
 }
 
-// Whether every entry of the table, without fault and of this width, has 16 bits or 32 of 32.
+// Whether a table without fault is one for images: of width 32, each entry of 16 bits or 32.
 fn image_table(table: &[u32], places: &[u32; 256], width: u32, count: usize) -> bool
     requires { ⌜ Ready (now table) (now places) width count ⌝ }
     ensures { λ r. ⌜ r ≡ imageTable (tableOf (now (table .entry))) ⌝ }

@@ -47,7 +47,6 @@ use Rattle.table.specs.Check.{readTable}
 use Rattle.image.specs.Listing.{stepOf, saidStep}
 use Rattle.image.specs.declared.Cursor.{Cursor}
 use Rattle.image.specs.declared.Stepped.{Stepped}
-use Rattle.image.specs.declared.HalfwordAddress.{HalfwordAddress}
 use Rattle.image.proofs.HalfwordAddress as N
 use Rattle.image.proofs.HalfwordAddress.Laws as N′
 use Rattle.image.proofs.Cursor as T

@@ -2,9 +2,8 @@ use Rattle.image.specs.Items.{foundWord}
 use lib.Pow.{shl-exact}
 use lib.Bits.{bitOr, or-shifted-r}
 use native.Mathlib.Omega.{arith}
-use Prim.Native.Nat.{ℕ, _+_, _*_, _%_, _^_}
-use mathlib.Core.Path.{_≡_, ap, _∙_}
-use borrow.Author.Needs.{needs}
+use Prim.Native.Nat.{ℕ, _+_, _*_, _^_}
+use mathlib.Core.Path.{ap, _∙_}
 use Rattle.image.proofs.lister.found_word.Statement.{statement}
 use Rattle.image.proofs.lister.found_word.Tie as tie
 

@@ -1,9 +1,9 @@
-use Rattle.image.specs.Address.{offsetOf, halfwordAt}
+use Rattle.image.specs.Address.{halfwordAt}
 use Rattle.image.specs.declared.ByteOffset.{ByteOffset}
 use lib.ListN.{getD}
 use native.Mathlib.Omega.{arith}
 use Prim.Native.Nat.{ℕ, _+_, _*_, _^_}
-use mathlib.Core.Path.{_≡_, ap, ap₂, _∙_}
+use mathlib.Core.Path.{ap, ap₂, _∙_}
 use borrow.Author.Needs.{needs}
 use Rattle.image.proofs.lister.halfword.Statement.{statement}
 use Rattle.image.proofs.lister.halfword.Tie as tie

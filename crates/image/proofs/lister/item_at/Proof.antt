@@ -1,10 +1,9 @@
-use mathlib.Core.Path.{_≡_, ap, _∙_}
+use mathlib.Core.Path.{ap, _∙_}
 use native.Mathlib.Omega.{arith}
 use Rattle.table.specs.Table.{tableOf}
 use Rattle.image.specs.declared.Picked.{Picked}
 use Rattle.image.specs.Address.{halfwords}
 use Rattle.image.specs.Items.{picked, itemOf, itemAt}
-use borrow.Author.Needs.{needs}
 use Rattle.image.proofs.lister.item_at.Statement.{statement}
 use Rattle.image.proofs.lister.item_at.Tie as tie
 

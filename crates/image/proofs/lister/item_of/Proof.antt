@@ -1,3 +1,4 @@
+use native.Mathlib.Omega.{arith}
 use Rattle.image.proofs.Leading.{item-nothing, item-short, item-cut, item-long}
 use borrow.Author.Needs.{needs}
 use Rattle.image.proofs.lister.item_of.Statement.{statement}
@@ -31,7 +32,7 @@ cut-word-requires : tie.Need-cut-word-requires
 cut-word-requires c κs = search needs
 
 returns : tie.Need-returns
-returns c = item-cut _ _ _ _ (c .before .before .before .before .p2 .given .0 .0) (c .before .before .before .before .p2 .given .1) (c .before .if1 .taken) (c .cut-word .ensures)
+returns c = item-cut _ _ _ _ (c .before .before .before .before .p2 .given .0 .0) (c .before .before .before .before .p2 .given .1) (omega (arith, c .before .if1 .taken)) (c .cut-word .ensures)
 
 found-word-requires-2 : tie.Need-found-word-requires-2
 found-word-requires-2 c κs = search needs
@@ -46,7 +47,7 @@ returns-3 : tie.Need-returns-3
 returns-3 c = item-short _ _ _ _ (c .before .before .before .p .given .0 .0) (c .before .before .before .p .given .1) (c .before .found-word .ensures)
 
 returns-4 : tie.Need-returns-4
-returns-4 c = item-long _ _ _ _ (c .before .before .before .before .before .p2 .given .0 .0) (c .before .before .before .before .before .p2 .given .1) (c .before .before .if1 .left) (c .before .found-word2 .ensures)
+returns-4 c = item-long _ _ _ _ (c .before .before .before .before .before .p2 .given .0 .0) (c .before .before .before .before .before .p2 .given .1) (omega (arith, c .before .before .if1 .left)) (c .before .found-word2 .ensures)
 
 pub item-of-spec : {M : Type 1} → statement M
 item-of-spec =

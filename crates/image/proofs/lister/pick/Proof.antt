@@ -1,5 +1,5 @@
 use Rattle.walker.specs.Walked.{said}
-use mathlib.Core.Path.{refl, ap, _∙_}
+use mathlib.Core.Path.{ap}
 use native.Mathlib.Omega.{arith}
 use Rattle.words.proofs.Parts.{part-of}
 use Rattle.image.proofs.Picking.{picks-place, picks-short, picks-long, picks-nothing, never, entry-small}

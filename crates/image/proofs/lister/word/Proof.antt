@@ -1,6 +1,6 @@
 use Rattle.image.specs.Address.{wordAt}
 use Prim.Native.Nat.{ℕ, _+_, _*_, _^_}
-use mathlib.Core.Path.{_≡_, ap₂, _∙_}
+use mathlib.Core.Path.{ap₂, _∙_}
 use borrow.Author.Needs.{needs}
 use Rattle.image.proofs.lister.word.Statement.{statement}
 use Rattle.image.proofs.lister.word.Tie as tie
