@@ -1,0 +1,331 @@
+"""The smallest input for each refusal, read out of docs/TABLES.md, so that the page and this test can't drift apart.
+
+An example is a command with a comment such as "# 2: wrong kind, field": the cause's number in document 01, and the fault. Each is run through the
+program, and held against three things: the line in the page, the second implementation, and what the table of causes says is
+returned and left in every lent buffer. A table with one of 1 to 4 is given to every other call that takes a table too. What is lent
+for reading only is not shown by probe, and not tested here. At the end all commands of the pages are run in a shell (doc_commands.py).
+
+Usage: smallest.py [path of probe [path of mktree]]. Exits with status 1 at the first difference.
+"""
+
+import re
+import sys
+from collections import Counter
+from dataclasses import dataclass
+
+import doc_commands
+import mktree
+import probe
+from second.lines import line_of, mktree_text
+
+PAGE = "TABLES.md"
+
+# Document 01, "Causes, numbers, places": what each row lists in words, and the calls that give it. A comment in the page is a number and one
+# of these.
+FAULTS = {
+    1: ["empty", "too long", "too long, reading", "first word, kind", "first word, spare bit", "first word, 257 entries", "first word, width 0",
+        "first word, width 33", "bytes that are not whole words"],
+    2: ["wrong kind, entry", "wrong kind, field", "wrong kind, condition", "wrong kind, unmatching pattern", "spare bit, field", "spare bit, condition",
+        "spare bit, unmatching pattern", "count, 9 fields", "count, 9 conditions", "count, 9 unmatching patterns", "entry length, 0",
+        "entry length, over the width", "table ends early", "words left over"],
+    3: ["mask outside own bits, above the width", "mask outside own bits, below a short entry", "mask outside own bits, condition",
+        "mask outside own bits, unmatching pattern", "value outside its mask", "value outside its mask, condition",
+        "value outside its mask, unmatching pattern"],
+    4: ["width 0", "outside own bits", "outside own bits, below a short entry", "overlapping the mask", "overlapping an earlier field",
+        "own bits not covered", "own bits not covered, with a field"],
+    5: ["tree does not fit", "over 16,384"],
+    6: ["generating, by mktree", "generating", "lookup", "decode"],
+    7: ["lookup", "decode", "walk", "walk for C"],
+    8: ["length 0", "kind", "spare bit", "width 0", "width 33", "no nodes", "more nodes than words after it", "length 0, for C",
+        "length not a multiple of four, for C"],
+    9: ["kind, below 8", "kind, above 10", "spare bit, test", "spare bit, entry", "spare bit, nothing", "tested bit at the width",
+        "one side below own + 2", "one side above the number of nodes", "kind, for C"],
+    10: ["7 words", "no words"],
+    11: ["no such entry", "too few values", "too many values"],
+    12: ["value does not fit", "value does not fit, the second"],
+    13: ["selects another entry", "selects nothing", "ambiguous"],
+    14: ["header", "widths", "damaged node", "one side not where the zero side ends", "a node not used", "a bit twice", "named entry, still open",
+         "nothing, but an entry is live", "listing", "step"],
+    15: ["width not 32", "a length not 16 or 32", "width not 32, step"],
+    16: ["odd", "odd, step", "over 2,097,152 bytes"],
+    17: ["no room at all", "earlier items"],
+}
+
+# What is returned with the number: a place, a word, or neither.
+PLACES = {1, 2, 3, 4, 9, 12, 17}
+WORDS = {6, 13}
+
+# Requests by number; the numbers that a call's own order allows ("generating 5, 6; lookup 7, 6; ..").
+FAULTY_TABLE = [1, 2, 3, 4]
+ALLOWED = {1: FAULTY_TABLE, 2: FAULTY_TABLE + [7, 6], 3: FAULTY_TABLE + [5, 6], 4: [8, 7, 9], 5: FAULTY_TABLE + [10, 7, 6],
+           6: FAULTY_TABLE + [11, 12, 13], 7: FAULTY_TABLE + [14], 8: FAULTY_TABLE + [15, 16, 14], 9: FAULTY_TABLE + [15, 16, 14, 17],
+           10: [8, 7, 9]}
+GENERATE, FOR_C, DECODE, LIST = 3, 4, 5, 9
+MOST_TREE_WORDS = 16384
+
+MARKS = [0x5EED0000 + at for at in range(40)]
+
+
+def stop(command, text):
+    sys.exit(f"docs/{PAGE}:{command.line}: {command.text}  # {command.comment}\n{text}")
+
+
+# ---------------------------------------------------------------------------- the page
+
+def expanded(text, variables):
+    """The words of a command, with its variable and $(yes W | head -n N) put in."""
+    text = re.sub(r"\$\(yes (\w+) \| head -n (\d+)\)", lambda m: " ".join([m[1]] * int(m[2])), text)
+    text = re.sub(r"\$(\w+)", lambda m: variables[m[1]], text)      # None is a TypeError
+    return [int(word, 16) for word in text.split()]
+
+
+def input_of(command, variables):
+    """The program that a command runs and the bytes that it gives to it."""
+    found = re.fullmatch(r"words ?(.*) \| (mktree|probe)", command.text)
+    if found:
+        return found[2], probe.pack(expanded(found[1], variables))
+    found = re.fullmatch(r"printf (\w+) \| mktree", command.text)
+    if found:
+        return "mktree", found[1].encode()
+    if command.text == "target/large":
+        return "C", b""
+    return stop(command, "an example of a form that this test does not know")
+
+
+def examples():
+    """(command, cause, fault, program, input) for every command of the page that has a comment."""
+    variables = {}
+    for command in doc_commands.commands(PAGE):
+        assigned = re.fullmatch(r'(\w+)="([^"]*)"', command.text)
+        if assigned:
+            # the step-by-step part builds its table from variables, and no example uses it
+            variables[assigned[1]] = assigned[2] if "$" not in assigned[2] else None
+        if command.comment:
+            cause, _, fault = command.comment.partition(": ")
+            if not cause.isdigit():
+                stop(command, "its comment does not begin with the number of a cause")
+            yield command, int(cause), fault, *input_of(command, variables)
+
+
+# ---------------------------------------------------------------------------- requests taken apart
+
+class Words:
+    """The words of one request, taken from the front."""
+
+    def __init__(self, data):
+        self.words = [int.from_bytes(data[at:at + 4], "little") for at in range(0, len(data), 4)]
+        self.at = 0
+
+    def word(self):
+        self.at += 1
+        return self.words[self.at - 1]
+
+    def run(self):
+        return [self.word() for _ in range(self.word())]
+
+    def bytes(self):
+        length = self.word()
+        data = b"".join(self.word().to_bytes(4, "little") for _ in range((length + 3) // 4))
+        return data[:length]
+
+
+def question_of(data):
+    """A request as a question of probe.py."""
+    it = Words(data)
+    shapes = {1: ("read", it.run), 2: ("lookup", it.run, it.word), 3: ("generate", it.run, it.run), 4: ("walk bytes", it.bytes, it.word),
+              5: ("decode", it.run, it.word, it.run), 6: ("encode", it.run, it.word, it.run), 7: ("check", it.run, it.run),
+              8: ("step", it.run, it.run, it.bytes, it.word), 9: ("list", it.run, it.run, it.bytes, it.run), 10: ("walk", it.run, it.word)}
+    request = it.word()
+    name, *parts = shapes[request]
+    question = (name, *[take() for take in parts])
+    if it.at != len(it.words):
+        raise ValueError("more than one request")
+    return question
+
+
+# ---------------------------------------------------------------------------- what is returned and left
+
+def refusal_in(request, line):
+    """Number, place and word in a line of probe."""
+    parts = line.partition("|")[0].split()
+    if request == FOR_C:
+        bits = int(parts[4], 16)
+        if bits & 0xFF00FFFFFFFF:       # bits 47-40 and 31-0
+            raise ValueError("bits are set that a refusal leaves zero")
+        return bits >> 32 & 0xFF, bits >> 48, 0
+    if len(parts) != 4:
+        raise ValueError("a refusal has no result")
+    return int(parts[1]), int(parts[2]), int(parts[3], 16)
+
+
+def check_returned(cause, number, place, word):
+    if number != cause:
+        raise ValueError(f"number {number}, and not {cause}")
+    if place and (cause not in PLACES or cause == 1):
+        raise ValueError(f"place {place} where none is listed")
+    if word and cause not in WORDS:
+        raise ValueError(f"word {word:08x} where none is listed")
+
+
+def words_left(line):
+    return [int(word, 16) for word in line.partition("|")[2].split()]
+
+
+def check_left(request, question, cause, line):
+    """"Left unchanged", for a buffer that the call may write to; 17 is in check_earlier. 1 if there is a buffer, else 0."""
+    if request not in (GENERATE, DECODE, LIST) or cause == 17:
+        return 0
+    before = question[-1]
+    cleared = cause == 5 or cause == 6 and request == GENERATE
+    if words_left(line) != ([0] * len(before) if cleared else before):
+        raise ValueError("the buffer is not as it is to be")
+    return 1
+
+
+def check_line(request, question, cause, line):
+    """A refusal's line by document 01 alone."""
+    if cause not in ALLOWED[request]:
+        raise ValueError(f"request {request} has no number {cause}")
+    check_returned(cause, *refusal_in(request, line))
+    return check_left(request, question, cause, line)
+
+
+# ---------------------------------------------------------------------------- the examples
+
+@dataclass
+class Case:
+    """A question that an example leads to."""
+    command: doc_commands.Command
+    cause: int
+    question: tuple
+    line: str = None            # what the page shows
+    refusal: tuple = None       # number, place and word that mktree printed for the same table
+    room: bool = False          # a listing that was refused with 17, now with room for every item
+
+
+def buffers_of(question):
+    """The question as it stands, and with other words lent."""
+    written = question[0] in ("generate", "decode", "list")
+    return [question] + ([(*question[:-1], MARKS[:len(question[-1])])] if written else [])
+
+
+def probe_cases(command, cause, data):
+    question = question_of(data)
+    cases = [Case(command, cause, one) for one in buffers_of(question)]
+    cases[0].line = "\n".join(command.printed)
+    if cause == 17:
+        # directly after it: the same listing with a word for each halfword
+        cases = [*cases[:1], Case(command, cause, (*question[:-1], MARKS[:len(question[3]) // 2]), room=True)]
+    return cases
+
+
+def table_questions(words):
+    """Every call that takes a table, with other faults beside the table's, which come later."""
+    return [("read", words), ("lookup", words, 0xFFFFFFFF), ("generate", words, MARKS[:3]), ("decode", words, 0xFFFFFFFF, MARKS[:7]),
+            ("encode", words, 999, [7]), ("check", words, []), ("step", words, [], b"\x00", 9), ("list", words, [], b"\x00", MARKS[:2])]
+
+
+def mktree_cases(path, command, cause, data):
+    seen = mktree.text_of(path, data)
+    if seen != "".join(line + "\n" for line in command.printed):
+        raise ValueError(f"mktree prints {seen}")
+    mktree.stop_at_difference(f"cause {cause}", data, mktree_text(data), seen)
+    found = re.fullmatch(r"refused (\d+) (\d+) ([0-9a-f]{8})\n", seen)
+    if not found:
+        raise ValueError("mktree does not refuse it")
+    refusal = int(found[1]), int(found[2]), int(found[3], 16)
+    check_returned(cause, *refusal)
+    if len(data) % 4 != 0:
+        return []
+    words = Words(data).words
+    questions = table_questions(words) if cause in FAULTY_TABLE else [("generate", words, [0xFFFFFFFF] * MOST_TREE_WORDS)]
+    return [Case(command, cause, question, refusal=refusal) for question in questions]
+
+
+def check_c(command, cause):
+    """The page's program in C: number, place and the lent word; doc_commands.py runs it."""
+    number, place, left = command.printed[0].split()
+    check_returned(cause, int(number), int(place), 0)
+    if left != "ffffffff":
+        raise ValueError("the lent word is changed")
+
+
+def check_earlier(line, whole):
+    """17: the buffer holds the earlier items, and the place is the address of the first left out."""
+    before, items = words_left(line), words_left(whole)
+    if before != items[:len(before)]:
+        raise ValueError("the buffer does not hold the earlier items")
+    if refusal_in(LIST, line)[1] != items[len(before)] & 0xFFFFF:
+        raise ValueError(f"the first item left out is {items[len(before)]:08x}")
+
+
+def check_case(case, line):
+    """1 if a lent buffer was looked at, else 0."""
+    request = probe.request_of(case.question)[0]
+    if case.line is not None and line != case.line:
+        raise ValueError(f"probe prints {line}")
+    if case.refusal is None or case.cause in FAULTY_TABLE:
+        # a tree over 16,384 words was made once by the second implementation, for mktree
+        probe.stop_at_difference(f"cause {case.cause}", case.question, line_of(case.question), line)
+    if case.refusal is not None and refusal_in(request, line) != case.refusal:
+        raise ValueError(f"mktree and request {request} differ: {line[:60]}")
+    return check_line(request, case.question, case.cause, line)
+
+
+def check_cases(path, cases):
+    """Asks probe once; gives back how many lent buffers were looked at."""
+    buffers, before = 0, None
+    for case, line in zip(cases, probe.ask(path, [case.question for case in cases]), strict=True):
+        try:
+            if case.room:
+                check_earlier(before, line)
+                buffers += 1
+            else:
+                buffers += check_case(case, line)
+        except ValueError as reason:
+            stop(case.command, reason)
+        before = line
+    return buffers
+
+
+def cases_of(path, command, cause, program, data):
+    try:
+        if program == "mktree":
+            return mktree_cases(path, command, cause, data)
+        if program == "probe":
+            return probe_cases(command, cause, data)
+        check_c(command, cause)
+        return []
+    except ValueError as reason:
+        return stop(command, reason)
+
+
+def check_complete(seen):
+    """Every cause and every fault has its example, and there is none that nobody listed."""
+    for cause in range(1, 18):
+        if not any(number == cause for number, _ in seen):
+            sys.exit(f"docs/{PAGE} has no example for number {cause}")
+        for fault in FAULTS[cause]:
+            if seen[cause, fault] != 1:
+                sys.exit(f"docs/{PAGE} has {seen[cause, fault]} examples for number {cause}: {fault}")
+    for cause, fault in seen:
+        if fault not in FAULTS.get(cause, []):
+            sys.exit(f"docs/{PAGE} has an example that is not listed, number {cause}: {fault}")
+
+
+def main():
+    probe_path, mktree_path = probe.path_from_arguments(), mktree.path_from_arguments(2)
+    seen, cases = Counter(), []
+    for command, cause, fault, program, data in examples():
+        cases += cases_of(mktree_path, command, cause, program, data)
+        seen[cause, fault] += 1
+    check_complete(seen)
+    buffers = check_cases(probe_path, cases)
+    each = Counter(cause for cause, _ in seen)
+    print("smallest good: " + ", ".join(f"{each[cause]} of {cause}" for cause in sorted(each))
+          + f"; {len(cases)} requests, {buffers} lent buffers")
+    ran = doc_commands.check(probe_path, mktree_path)
+    print("doc_commands good: " + ", ".join(f"{count} in docs/{page}" for page, count in ran.items()))
+
+
+main()
