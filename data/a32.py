@@ -1,20 +1,23 @@
-"""A32, the 32-bit ARM instructions of ARMv7-A without Advanced SIMD and VFP, and without the coprocessor instructions 2 (CDP2 ..).
+"""A32, the 32-bit ARM instructions of ARMv7-A without Advanced SIMD, VFP and the second coprocessor
+instructions (CDP2 to STC2).
 
-Facts: ARM Architecture Reference Manual, ARMv7-A and ARMv7-R edition (ARM DDI 0406C), chapter A5 "ARM Instruction Set Encoding" (its tables)
-and the encodings A1 in chapters A8 and B9. Data processing is laid out as in the earlier manual (ARM DDI 0100I, A3.4 and A5.1): one
-pattern for an operation, with bit 25 (I) and the shifter operand as fields.
+Facts: ARM Architecture Reference Manual, ARMv7-A and ARMv7-R edition (ARM DDI 0406C), chapter A5 "ARM Instruction Set
+Encoding" (its tables) and the encodings A1 in chapters A8 and B9. Data processing is laid out as in the earlier manual (ARM
+DDI 0100I, A3.4 and A5.1): one pattern for an operation, with bit 25 (I) and the shifter operand as fields.
 
 What the manual says by exclusion is an exclusion condition here: cond = 1111 is another space (NEVER); data processing with
-I = 0 and bits 7 and 4 set is multiplies and extra loads and stores (EXTRA); loads and stores with bits 25 and 4 set are media
-instructions (MEDIA); coprocessors 10 and 11 are VFP and Advanced SIMD (VECTOR); and a few more below. What it says by "SEE" is left to
-the most-specific rule: ADR in ADD and SUB, LDRT .. in LDR .., LDRHT .. in LDRH .., POP in LDM, PUSH in STMDB, SXTB .. in SXTAB ..,
-BFC in BFI, USAD8 in USADA8, SMUAD in SMLAD, SMUSD in SMLSD, SMMUL in SMMLA.
+I = 0 and bits 7 and 4 set is multiplies and extra loads and stores (EXTRA); loads and stores with bits 25 and 4 set are
+media instructions (MEDIA_SPACE); coprocessors 10 and 11 are VFP and Advanced SIMD (VECTOR); and a few more below. What it says by
+"SEE" is left to the most-specific rule: ADR in ADD and SUB, LDRT .. in LDR .., LDRHT .. in LDRH .., POP in LDM, PUSH in
+STMDB, SXTB .. in SXTAB .., BFC in BFI, USAD8 in USADA8, SMUAD in SMLAD, SMUSD in SMLSD, SMMUL in SMMLA.
 
-A bit in brackets in the manual ("should be") is an opcode bit: other words are UNPREDICTABLE there and select nothing here. What depends
-on a register's number only (odd Rt of LDRD, Rd = 15 with S: SUBS PC, LR) is left to the fields. Aliases are left out: LSL, LSR, ASR,
-ROR, RRX (MOV), the literal forms (Rn = 15), PUSH and POP of one register (STR, LDR). One entry has both SWP and SWPB.
+A bit in brackets in the manual ("should be") is an opcode bit: other words are UNPREDICTABLE there and select nothing here.
+What depends on a register's number only (odd Rt of LDRD, Rd = 15 with S: SUBS PC, LR) is left to the fields. Aliases are
+left out: LSL, LSR, ASR, ROR, RRX (MOV), the literal forms (Rn = 15), PUSH and POP of one register (STR, LDR). One entry has
+both SWP and SWPB.
 
-Letters: c cond, S sets flags, n d t m a registers Rn Rd Rt Rm Ra, o shifter operand or offset, i immediate, P U W addressing, r list.
+Letters: c cond, S sets flags, n d t m a registers Rn Rd Rt Rm Ra, o shifter operand or offset, i immediate, P U W
+addressing, r list.
 """
 
 from patterns import InstructionSet, Unless, listed
@@ -260,5 +263,6 @@ def parallel():
 
 
 SET = InstructionSet("a32", 32, tuple(
-    DATA_PROCESSING + IMMEDIATE + STATUS + MISCELLANEOUS + ALWAYS + MULTIPLY + SYNCHRONIZATION + EXTRA_LOADS_AND_STORES + DOUBLE
-    + LOADS_AND_STORES + parallel() + MEDIA + BLOCK_AND_BRANCH + COPROCESSOR_MEMORY + COPROCESSOR + UNCONDITIONAL + WRITE_PRELOAD))
+    DATA_PROCESSING + IMMEDIATE + STATUS + MISCELLANEOUS + ALWAYS + MULTIPLY + SYNCHRONIZATION
+    + EXTRA_LOADS_AND_STORES + DOUBLE + LOADS_AND_STORES + parallel() + MEDIA + BLOCK_AND_BRANCH
+    + COPROCESSOR_MEMORY + COPROCESSOR + UNCONDITIONAL + WRITE_PRELOAD))

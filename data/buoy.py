@@ -1,19 +1,22 @@
-"""The controller of a weather buoy: a table of our own, to show how an instruction set grows into the gaps of its old patterns.
+"""The controller of a weather buoy: a table of our own, to show how an instruction set grows into the gaps of its old
+patterns.
 
-No manual: this file is where the facts are. There are sixteen registers; register 15 is the clock. Instructions are 16 or 32 bits, the first
-halfword in the word's upper half. Buoys are at sea for years, so what an old program does must never change: each version only takes
-words that no program in the field uses.
+No manual: this file is where the facts are. There are sixteen registers; register 15 is the clock. Instructions are 16 or
+32 bits, the first halfword in the word's upper half. Buoys are at sea for years, so what an old program does must never
+change: each version only takes words that no program in the field uses.
 
 Version 1, the first season: sixteen-bit instructions.
-Version 2, lamps and alarms. A branch that is never taken (condition 1111) and a result written over the clock (register 15) were of no
-    use, and no program has them, with one exception: ADD 15, 15, t corrects the clock's drift and stays. TRIP takes the four
-    patterns 00kk 1111 across MOVE, ADD, SUB and MASK: it is not more specific than any of them (nor they than it), so they
-    give up these words by exclusion conditions, ADD but for 15, 15; and TRIP gives up what ADD keeps. LAMP lies inside BRANCH alone and is more specific; BRANCH needs
-    no condition.
-Version 3, the satellite link: 32-bit instructions under 1110. SAMPLE with count 0 would never end: it takes no such word, and
-    STOP is put there, for all ports or for one. RELEASE is a later, wider RETURN: the old one is more specific and stays as it was.
-Version 4, after the storm. SLEEP 0 slept forever and cost us a buoy: no entry claims it any more, so the simulator traps. DOZE
-    (wake by waves) takes the sleeps from 240 up by being more specific, but for SLEEP 255, the long night of version 1.
+Version 2, lamps and alarms. A branch that is never taken (condition 1111) and a result written over the clock (register 15)
+    were of no use, and no program has them, with one exception: ADD 15, 15, t corrects the clock's drift and stays. TRIP
+    takes the four patterns 00kk 1111 across MOVE, ADD, SUB and MASK: it is not more specific than any of them (nor they
+    than it), so they give up these words by exclusion conditions, ADD but for 15, 15; and TRIP gives up what ADD keeps.
+    LAMP lies inside BRANCH alone and is more specific; BRANCH needs no condition.
+Version 3, the satellite link: 32-bit instructions under 1110. SAMPLE with count 0 would never end: it takes no such word,
+    and STOP is put there, for all ports or for one. RELEASE is a later, wider RETURN: the old one is more specific and
+    stays as it was.
+Version 4, after the storm. SLEEP 0 slept forever and cost us a buoy: no entry claims it any more, so the simulator traps;
+    this is the one word that was ever taken back. DOZE (wake by waves) takes the sleeps of 240 to 254 ticks, which no
+    program has, by being more specific; it leaves SLEEP 255, the long night of version 1.
 """
 
 from patterns import InstructionSet, Unless, listed

@@ -1,16 +1,18 @@
 """RISC-V RV64: I, M, A, F, D, Zicsr, Zifencei, Zfh, Zba, Zbb, Zbc, Zbs, Zbkb, Zbkx, Zicond, Zicbom, Zicbop, Zicboz, and four
 privileged instructions. All are 32 bits wide; the C extension is left out.
 
-Facts: The RISC-V Instruction Set Manual, Volume I (unprivileged): the chapter "RV32/64G Instruction Set Listings", and for the later
-extensions the encodings in their own chapters (Zfh; "B" with Zba, Zbb, Zbc, Zbs; scalar cryptography with Zbkb, Zbkx; Zicond; CMO with
-Zicbom, Zicbop, Zicboz). SRET, MRET, WFI and SFENCE.VMA are from Volume II (privileged), the listing of its instructions.
+Facts: The RISC-V Instruction Set Manual, Volume I (unprivileged): the chapter "RV32/64G Instruction Set Listings", and for
+the later extensions the encodings in their own chapters (Zfh; "B" with Zba, Zbb, Zbc, Zbs; scalar cryptography with Zbkb,
+Zbkx; Zicond; CMO with Zicbom, Zicbop, Zicboz). SRET, MRET, WFI and SFENCE.VMA are from Volume II (privileged), the listing
+of its instructions.
 
-Letters: d rd, s rs1, t rs2, u rs3, i immediate or offset, h shift amount, m rounding mode, a aq and rl, c CSR, f p n of FENCE. The encodings
-are those of RV64 (shift amounts of six bits; REV8 and ZEXT.H as RV64 has them).
+Letters: d rd, s rs1, t rs2, u rs3, i immediate or offset, h shift amount, m rounding mode, a aq and rl, c CSR, f p n of
+FENCE. The encodings are those of RV64 (shift amounts of six bits; REV8 and ZEXT.H as RV64 has them).
 
-Special cases that the most-specific rule resolves: FENCE.TSO and PAUSE in FENCE, ZEXT.H in PACKW, PREFETCH.I, .R and .W in ORI.
-A reserved rounding mode (5, 6) is a matter of the field m: the manual lists each instruction once, for every m.
-Assemblers' names for special cases are left out: NOP, LI, MV, NOT, NEG, SEXT.W, ZEXT.W, RET, J, JR, BEQZ, CSRR, FMV.S, FABS.S, FNEG.S ..
+Special cases that the most-specific rule resolves: FENCE.TSO and PAUSE in FENCE, ZEXT.H in PACKW, PREFETCH.I, .R and .W in
+ORI. A reserved rounding mode (5, 6) is a matter of the field m: the manual lists each instruction once, for every m.
+Assemblers' names for special cases are left out: NOP, LI, MV, NOT, NEG, SEXT.W, ZEXT.W, RET, J, JR, BEQZ, CSRR, FMV.S,
+FABS.S, FNEG.S ..
 """
 
 from patterns import InstructionSet, listed

@@ -58,9 +58,10 @@ KNOWN = {
 }
 
 # The start of a program as avr-gcc makes it, bytes in flash order, and what a lister must say of it.
-AVR_PROGRAM = bytes.fromhex("0c943400 1124 1fbe cfef d8e0 debf cdbf 0e944000 0c944500 8fef 80930001 80910001 0197 f1f7 0895 f894 ffcf 0c94")
-AVR_LISTING = ["0 JMP", "2 EOR", "3 OUT", "4 LDI", "5 LDI", "6 OUT", "7 OUT", "8 CALL", "10 JMP", "12 LDI", "13 STS", "15 LDS", "17 SBIW",
-               "18 BRBC", "19 RET", "20 BCLR", "21 RJMP", "22 cut off"]
+AVR_PROGRAM = bytes.fromhex("0c943400 1124 1fbe cfef d8e0 debf cdbf 0e944000 0c944500 8fef 80930001 80910001 0197 f1f7 ffff 0895"
+                            "f894 ffcf 0c94")
+AVR_LISTING = ["0 JMP", "2 EOR", "3 OUT", "4 LDI", "5 LDI", "6 OUT", "7 OUT", "8 CALL", "10 JMP", "12 LDI", "13 STS", "15 LDS",
+               "17 SBIW", "18 BRBC", "19 nothing", "20 RET", "21 BCLR", "22 RJMP", "23 cut off"]
 
 
 @dataclass
@@ -99,7 +100,7 @@ def compare_file(path, one):
 
 
 def compare_tree(path, mktree_path, one, tally):
-    """mktree prints the second implementation's tree, which is no refusal, and probe's checker accepts it. Gives back the tree."""
+    """The tree that mktree prints: the second implementation's, which is no refusal, and probe's checker accepts it."""
     data = probe.pack(one.words)
     expected = mktree_text(data)
     if expected.startswith("refused"):
@@ -187,11 +188,18 @@ def compare_known(path, one, tally):
         tally["known"] += 1
 
 
+def listed_name(one, item):
+    """Kind 12 has an entry, kind 13 nothing, kind 14 is an instruction that the image's end cuts off."""
+    if item >> 28 == 12:
+        return one.mnemonic(item >> 20 & 0xFF)
+    return {13: NOTHING, 14: "cut off"}[item >> 28]
+
+
 def compare_listing(path, one, tree, tally):
     """The lister on AVR code."""
     line = probe.ask(path, [("list", one.words, tree, AVR_PROGRAM, [0] * (len(AVR_PROGRAM) // 2))])[0]
     items = [int(item, 16) for item in line.partition("| ")[2].split()][:int(line.split(" ")[4])]
-    seen = [f"{item & 0xFFFFF} " + (one.mnemonic(item >> 20 & 0xFF) if item >> 28 == 12 else "cut off") for item in items]
+    seen = [f"{item & 0xFFFFF} {listed_name(one, item)}" for item in items]
     if seen != AVR_LISTING:
         stop(f"AVR program: expected {AVR_LISTING}, seen {seen}")
     tally["listed"] += len(items)
@@ -238,7 +246,8 @@ def notice_altered(rng, one, tally):
 def least(sets):
     needed = {"known": 85, "listed": len(AVR_LISTING), "altered": ALTERED * len(sets), "tree lines": 10000}
     for one in sets:
-        needed |= {one.name: 20000, f"{one.name}, made": 7000, f"{one.name}, neighbours": 7000, f"{one.name}, entry {NOTHING}": 300}
+        needed |= {one.name: 20000, f"{one.name}, made": 7000, f"{one.name}, neighbours": 7000}
+        needed |= {f"{one.name}, entry {NOTHING}": 300}
         needed |= {f"{one.name}, entry {number}": 10 for number in range(len(one.set.instructions))}
     return needed
 
@@ -260,8 +269,8 @@ def main():
             compare_listing(path, one, tree, tally)
     probe.require_enough(tally, least(sets))
     said = ", ".join(f"{one.name}: {tally[one.name]}" for one in sets)
-    print(f"compare_data good: {len(sets)} sets, {tally['tree lines']} tree words; words by set {said}; {tally['known']} known words, "
-          f"{tally['listed']} items listed, {tally['altered']} altered sets noticed")
+    print(f"compare_data good: {len(sets)} sets, {tally['tree lines']} tree words; words by set {said}; "
+          f"{tally['known']} known words, {tally['listed']} items listed, {tally['altered']} altered sets noticed")
 
 
 if __name__ == "__main__":

@@ -1,9 +1,9 @@
-"""Compares the tables in data/ with the disassemblers of GNU binutils. Not part of the gate: a disassembler that isn't installed is
-skipped, with a line that says so.
+"""Compares the tables in data/ with the disassemblers of GNU binutils. Not part of the gate: a disassembler that isn't
+installed is skipped, with a line that says so.
 
-AVR: whole images, listed by probe; address, length and name of every item. RISC-V: the name of each word, or nothing, with the few
-exceptions of riscv_stricter. A32: the name of each word for which the table has one; the other way round isn't compared, because objdump
-names words whose "should be" bits are wrong, and instructions that data/ leaves out.
+AVR: whole images, listed by probe; address, length and name of every item. RISC-V: the name of each word, or nothing, with
+the few exceptions of riscv_stricter. A32: the name of each word for which the table has one; the other way round isn't
+compared, because objdump names words whose "should be" bits are wrong, and instructions that data/ leaves out.
 
 Usage: optional_objdump.py [path of probe]. Exits with status 1 at the first difference.
 """
@@ -235,7 +235,7 @@ def main():
             if tools(*needed):
                 one = compare_data.ready(name, compare_data.make.SETS[name])
                 done.append(compare(path, random.Random(SEED), Path(folder), one))
-    print(f"optional_objdump good: {', '.join(done) or 'nothing compared'}")
+    print(f"optional_objdump good: {', '.join(done)}" if done else "optional_objdump: nothing compared")
 
 
 if __name__ == "__main__":

@@ -1,4 +1,6 @@
-"""A32 by the encoding tables of ARM DDI 0406C, chapter A5, one function a section. A word whose "should be" bits are wrong has no name."""
+"""A32 by the encoding tables of ARM DDI 0406C, chapter A5, one function a section. A word whose "should be" bits are wrong has
+no name.
+"""
 
 from manuals import part
 

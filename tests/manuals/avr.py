@@ -1,7 +1,7 @@
 """AVR by the usual decision tree: the first halfword's high nibble, then what it leaves open.
 
-The AVR Instruction Set Manual has no decode table of its own; this is the order in which simulators decode it. The second halfword
-never decides anything.
+The AVR Instruction Set Manual has no decode table of its own; this is the order in which simulators decode it. The second
+halfword never decides anything.
 """
 
 from manuals import part

@@ -164,8 +164,9 @@ def by_funct3(names):
     return lambda word: names.get(funct3(word))
 
 
-OPCODES = {0x03: by_funct3(LOAD), 0x07: by_funct3(LOAD_FP), 0x0F: misc_mem, 0x13: op_imm, 0x17: lambda word: "AUIPC", 0x1B: op_imm_32,
-           0x23: by_funct3(STORE), 0x27: by_funct3(STORE_FP), 0x2F: amo, 0x33: op, 0x37: lambda word: "LUI", 0x3B: op_32,
+OPCODES = {0x03: by_funct3(LOAD), 0x07: by_funct3(LOAD_FP), 0x0F: misc_mem, 0x13: op_imm, 0x17: lambda word: "AUIPC",
+           0x1B: op_imm_32, 0x23: by_funct3(STORE), 0x27: by_funct3(STORE_FP), 0x2F: amo, 0x33: op,
+           0x37: lambda word: "LUI", 0x3B: op_32,
            0x43: fused, 0x47: fused, 0x4B: fused, 0x4F: fused, 0x53: op_fp, 0x63: by_funct3(BRANCH), 0x67: jalr,
            0x6F: lambda word: "JAL", 0x73: system}
 
