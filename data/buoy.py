@@ -1,0 +1,74 @@
+"""The controller of a weather buoy: a table of our own, to show how an instruction set grows into the gaps of its old
+patterns.
+
+No manual: this file is where the facts are. There are sixteen registers; register 15 is the clock. Instructions are 16 or
+32 bits, the first halfword in the word's upper half. Buoys are at sea for years, so what an old program does must never
+change: each version only takes words that no program in the field uses.
+
+Version 1, the first season: sixteen-bit instructions.
+Version 2, lamps and alarms. A branch that is never taken (condition 1111) and a result written over the clock (register 15)
+    were of no use, and no program has them, with one exception: ADD 15, 15, t corrects the clock's drift and stays. TRIP
+    takes the four patterns 00kk 1111 across MOVE, ADD, SUB and MASK: it is not more specific than any of them (nor they
+    than it), so they give up these words by exclusion conditions, ADD but for 15, 15; and TRIP gives up what ADD keeps.
+    LAMP lies inside BRANCH alone and is more specific; BRANCH needs no condition.
+Version 3, the satellite link: 32-bit instructions under 1110. SAMPLE with count 0 would never end: it takes no such word,
+    and STOP is put there, for all ports or for one. RELEASE is a later, wider RETURN: the old one is more specific and
+    stays as it was.
+Version 4, after the storm. SLEEP 0 slept forever and cost us a buoy: no entry claims it any more, so the simulator traps;
+    this is the one word that was ever taken back. DOZE (wake by waves) takes the sleeps of 240 to 254 ticks, which no
+    program has, by being more specific; it leaves SLEEP 255, the long night of version 1.
+"""
+
+from patterns import InstructionSet, Unless, listed
+
+CLOCK = Unless("---- 1111")
+CLOCK_BUT_DRIFT = Unless("---- 1111", ("---- ---- 1111",))      # ADD 15, 15, t
+DRIFT = Unless("0001 1111 1111")                                # what ADD keeps
+NO_SLEEP = Unless("---- ---- 0000 0000")
+LONG_NIGHT = Unless("---- ---- ---- 1111")                      # SLEEP 255
+NO_COUNT = Unless("---- ---- ---- ---- 0000 0000")
+
+VERSION_1 = (
+    listed("MOVE      0000 dddd ssss 0000", CLOCK)
+    + listed("ADD       0001 dddd ssss tttt", CLOCK_BUT_DRIFT)
+    + listed("""
+    SUB       0010 dddd ssss tttt
+    MASK      0011 dddd ssss tttt
+    """, CLOCK)
+    + listed("""
+    SET       0100 dddd iiii iiii
+    READ      0101 dddd pppp pppp
+    WRITE     0110 ssss pppp pppp
+    LOAD      0111 dddd ssss oooo
+    STORE     1000 dddd ssss oooo
+    BRANCH    1001 cccc oooo oooo
+    CALL      1010 oooo oooo oooo
+    RETURN    1011 0000 0000 0000
+    """)
+    + listed("SLEEP     1011 0001 tttt tttt", NO_SLEEP))
+
+VERSION_2 = (
+    listed("TRIP      00kk 1111 ssss tttt", DRIFT)
+    + listed("""
+    LAMP      1001 1111 llll pppp
+    LAMP OFF  1001 1111 llll 0000
+    SHIFT     1100 dddd ssss tttt
+    COMPARE   1101 dddd iiii iiii
+    """))
+
+VERSION_3 = (
+    listed("""
+    RELEASE   1011 0000 0000 nnnn
+    SEND      1110 0000 dddd ssss aaaa aaaa aaaa aaaa
+    RECEIVE   1110 0001 dddd ssss aaaa aaaa aaaa aaaa
+    FAR CALL  1110 0010 aaaa aaaa aaaa aaaa aaaa aaaa
+    SET LONG  1110 0011 0000 dddd iiii iiii iiii iiii
+    FILTER    1110 01ww dddd ssss kkkk kkkk kkkk kkkk
+    STOP      1110 1ppp pppp dddd 0000 0000 0000 0000
+    STOP ALL  1110 1111 1111 dddd 0000 0000 0000 0000
+    """)
+    + listed("SAMPLE    1110 1ppp pppp dddd nnnn nnnn rrrr rrrr", NO_COUNT))
+
+VERSION_4 = listed("DOZE      1011 0001 1111 wwww", LONG_NIGHT)
+
+SET = InstructionSet("buoy", 32, tuple(VERSION_1 + VERSION_2 + VERSION_3 + VERSION_4))

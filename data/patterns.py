@@ -1,0 +1,105 @@
+"""From a readable list of instructions to the words of a pattern table (document 01, "The pattern table").
+
+A pattern is written high bit first. 0 and 1 are opcode bits, a letter is a bit of a field, blanks are for the eye. Bits side by
+side with the same letter are one field, so a field that the encoding splits comes out as two. Fields stand in the table from
+the high bits down. In a condition - is a bit outside the mask, and bits left out at the low end are outside it too.
+"""
+
+import re
+import struct
+from dataclasses import dataclass
+
+MOST_FIELDS = MOST_CONDITIONS = MOST_UNMATCHING = 8
+MOST_ENTRIES = 256
+MOST_WORDS = 16384
+
+
+@dataclass(frozen=True)
+class Unless:
+    """An exclusion condition: the entry loses the words that match the first pattern, but for those that match another."""
+    matching: str
+    but_for: tuple = ()
+
+
+@dataclass(frozen=True)
+class Instruction:
+    mnemonic: str
+    pattern: str
+    conditions: tuple = ()
+
+
+@dataclass(frozen=True)
+class InstructionSet:
+    name: str
+    width: int
+    instructions: tuple
+
+
+def listed(text, *conditions):
+    """One instruction a line: the mnemonic, at least two blanks, the pattern; what follows # is a note."""
+    instructions = []
+    for line in text.splitlines():
+        line = line.partition("#")[0].strip()
+        if line:
+            mnemonic, pattern = re.split("  +", line, maxsplit=1)
+            instructions.append(Instruction(mnemonic, pattern.replace(" ", ""), conditions))
+    return instructions
+
+
+def fields_of(pattern, width):
+    """(lowest bit, width in bits) of each run of one letter."""
+    return [(width - run.end(), run.end() - run.start()) for run in re.finditer(r"([A-Za-z])\1*", pattern)]
+
+
+def mask_and_value(pattern, width):
+    """The two words of a pattern that stands at the top of the word."""
+    mask = sum(1 << width - 1 - place for place, bit in enumerate(pattern) if bit in "01")
+    value = sum(1 << width - 1 - place for place, bit in enumerate(pattern) if bit == "1")
+    return [mask, value]
+
+
+def condition_words(condition, width):
+    matching, *but_for = (text.replace(" ", "") for text in (condition.matching, *condition.but_for))
+    words = [4 << 28 | limited(len(but_for), MOST_UNMATCHING), *mask_and_value(matching, width)]
+    for pattern in but_for:
+        words += [5 << 28, *mask_and_value(pattern, width)]
+    return words
+
+
+def limited(number, most):
+    if number > most:
+        raise ValueError(f"{number}, and at most {most} are allowed")
+    return number
+
+
+def entry_words(instruction, label, width):
+    pattern = instruction.pattern
+    fields = fields_of(pattern, width)
+    conditions = instruction.conditions
+    words = [2 << 28 | label << 16 | len(pattern) << 8 | limited(len(fields), MOST_FIELDS) << 4
+             | limited(len(conditions), MOST_CONDITIONS), *mask_and_value(pattern, width)]
+    words += [3 << 28 | lowest << 8 | size for lowest, size in fields]
+    for condition in conditions:
+        words += condition_words(condition, width)
+    return words
+
+
+def labels_of(instructions):
+    """Encodings of one mnemonic share its label: labels are numbered from 0 as mnemonics first appear."""
+    numbers = {}
+    return [numbers.setdefault(instruction.mnemonic, len(numbers)) for instruction in instructions]
+
+
+def table_words(one):
+    """The words of an instruction set's table."""
+    words = [1 << 28 | limited(len(one.instructions), MOST_ENTRIES) << 16 | one.width]
+    for instruction, label in zip(one.instructions, labels_of(one.instructions)):
+        words += entry_words(instruction, label, one.width)
+    limited(len(words), MOST_WORDS)
+    return words
+
+
+def table_bytes(one):
+    """The words, low byte first, as mktree takes them."""
+    words = table_words(one)
+    return struct.pack(f"<{len(words)}I", *words)

@@ -1,0 +1,277 @@
+"""Checks the real instruction sets in data/: each table is what its list makes, its tree is the second implementation's, and what
+probe selects is what the second implementation selects and what a decoder written from the manual (manuals/) names.
+
+Usage: compare_data.py [path of probe [path of mktree]]. Exits with status 1 at the first difference.
+"""
+
+import random
+import sys
+from collections import Counter
+from dataclasses import dataclass, replace
+from pathlib import Path
+
+import mktree
+import probe
+
+DATA = Path(__file__).resolve().parent.parent / "data"
+sys.path.insert(1, str(DATA))
+
+import make
+import manuals.a32
+import manuals.avr
+import manuals.buoy
+import manuals.riscv
+from patterns import fields_of, mask_and_value, table_bytes, table_words
+from second.lines import mktree_text, read_line
+from second.reader import Refusal, read
+from second.selection import AMBIGUOUS, NOTHING, select
+from second.tree import nodes_once
+
+SEED = 9
+MANUALS = {"avr": manuals.avr, "riscv": manuals.riscv, "a32": manuals.a32, "buoy": manuals.buoy}
+RANDOM_WORDS = 6000
+WORDS_AT_LEAST_EACH = 30        # words made for each entry, and as many neighbours
+MADE_WORDS = 8000
+ALTERED = 15                    # altered sets of each, which the manual's decoder must tell from the real one
+WORDS_FOR_ALTERED = 40
+
+# Words as assemblers print them, known without any table of ours.
+KNOWN = {
+    "avr": {0x940C0034: "JMP", 0x940E0040: "CALL", 0x24110000: "EOR", 0xBE1F0000: "OUT", 0xEFCF0000: "LDI",
+            0x95080000: "RET", 0x95180000: "RETI", 0x94F80000: "BCLR", 0x94780000: "BSET", 0xCFFF0000: "RJMP", 0x93CF0000: "PUSH",
+            0x91CF0000: "POP", 0x95C80000: "LPM", 0x91800100: "LDS", 0x93800100: "STS", 0x96210000: "ADIW", 0x9A280000: "SBI",
+            0xF7E90000: "BRBC", 0x00000000: "NOP", 0x81880000: "LDD Y", 0x83880000: "STD Y", 0xFFFF0000: "nothing"},
+    "riscv": {0x00000013: "ADDI", 0x00008067: "JALR", 0x00000073: "ECALL", 0x00100073: "EBREAK", 0x0FF0000F: "FENCE",
+              0x8330000F: "FENCE.TSO", 0x0100000F: "PAUSE", 0x0000100F: "FENCE.I", 0x30200073: "MRET", 0x10200073: "SRET",
+              0x10500073: "WFI", 0x12000073: "SFENCE.VMA", 0xFE010113: "ADDI", 0x00113C23: "SD", 0x02A5F553: "FADD.D",
+              0x02B50533: "MUL", 0x1005252F: "LR.W", 0x0805453B: "ZEXT.H", 0x6B855513: "REV8", 0x00000000: "nothing",
+              0xFFFFFFFF: "nothing", 0xC0102573: "CSRRS"},
+    "a32": {0xE3A00001: "MOV", 0xE1A00000: "MOV", 0xE12FFF1E: "BX", 0xE12FFF33: "BLX", 0xE92D4800: "PUSH", 0xE8BD8800: "POP",
+            0xE0810392: "UMULL", 0xE0010392: "MUL", 0xE320F000: "NOP", 0xEF000000: "SVC", 0xE59F0004: "LDR", 0xEAFFFFFE: "B",
+            0xEB000000: "BL", 0xFA000000: "BLX", 0xF57FF05F: "DMB", 0xF57FF04F: "DSB", 0xF57FF06F: "ISB", 0xF57FF01F: "CLREX",
+            0xE1200070: "BKPT", 0xE7F000F0: "UDF", 0xE10F0000: "MRS", 0xE129F000: "MSR", 0xE28F0004: "ADR", 0xE16F0F11: "CLZ",
+            0xE1D000B0: "LDRH", 0xE1C000B0: "STRH", 0xE1900F9F: "LDREX", 0xE6EF0071: "UXTB", 0xE7E70050: "UBFX",
+            0xEE070F15: "MCR", 0xE2500001: "SUB", 0xF5D0F000: "PLD"},
+    "buoy": {0x0F000000: "TRIP", 0x1FF30000: "ADD", 0x1F030000: "TRIP", 0xB1000000: "nothing", 0xB1F00000: "DOZE",
+             0xB1FF0000: "SLEEP", 0x9F100000: "LAMP OFF", 0xB0000000: "RETURN", 0xB0010000: "RELEASE", 0xE8000000: "STOP",
+             0xEFF00000: "STOP ALL", 0xEFF00001: "nothing", 0xEFF00100: "SAMPLE"},
+}
+
+# The start of a program as avr-gcc makes it, bytes in flash order, and what a lister must say of it.
+AVR_PROGRAM = bytes.fromhex("0c943400 1124 1fbe cfef d8e0 debf cdbf 0e944000 0c944500 8fef 80930001 80910001 0197 f1f7 ffff 0895"
+                            "f894 ffcf 0c94")
+AVR_LISTING = ["0 JMP", "2 EOR", "3 OUT", "4 LDI", "5 LDI", "6 OUT", "7 OUT", "8 CALL", "10 JMP", "12 LDI", "13 STS", "15 LDS",
+               "17 SBIW", "18 BRBC", "19 nothing", "20 RET", "21 BCLR", "22 RJMP", "23 cut off"]
+
+
+@dataclass
+class Ready:
+    """A set with its table as words and as the second implementation reads it."""
+    name: str
+    set: object
+    words: list
+    table: object
+
+    def mnemonic(self, answer):
+        return answer if answer in (NOTHING, AMBIGUOUS) else self.set.instructions[answer].mnemonic
+
+
+def ready(name, one):
+    words = table_words(one)
+    table = read(words)
+    if isinstance(table, Refusal):
+        stop(f"{name}: refused with {table}")
+    return Ready(name, one, words, table)
+
+
+def stop(text):
+    print(text)
+    sys.exit(1)
+
+
+# ---------------------------------------------------------------------------- files, reading, trees
+
+def compare_file(path, one):
+    """The file is what the list makes; probe reads it as the second implementation does."""
+    if (DATA / f"{one.name}.table").read_bytes() != table_bytes(one.set):
+        stop(f"data/{one.name}.table isn't what data/make.py makes")
+    question = "read", one.words
+    probe.stop_at_difference(f"{one.name}, reading", question, read_line(one.words), probe.ask(path, [question])[0])
+
+
+def compare_tree(path, mktree_path, one, tally):
+    """The tree that mktree prints: the second implementation's, which is no refusal, and probe's checker accepts it."""
+    data = probe.pack(one.words)
+    expected = mktree_text(data)
+    if expected.startswith("refused"):
+        stop(f"{one.name}: {expected}")
+    seen = mktree.text_of(mktree_path, data)
+    mktree.stop_at_difference(one.name, data, expected, seen)
+    tree = [int(line.split(" ")[1], 16) for line in seen.splitlines()]
+    question = "check", one.words, tree
+    probe.stop_at_difference(f"{one.name}, check", question, "7 0 0 00000000 yes", probe.ask(path, [question])[0])
+    tally["tree lines"] += len(tree)
+    return tree
+
+
+def numbers_of(one, tree):
+    """What README.md says of a set: width, entries, words, nodes, most tests on a path."""
+    most = max(len(node.cell.fixed) for node in nodes_once(tuple(one.words)))
+    return [one.set.width, len(one.set.instructions), len(one.words), len(tree) - 1, most]
+
+
+def compare_readme(one, tree):
+    row = f"| {one.name} | " + " | ".join(map(str, numbers_of(one, tree))) + " |"
+    if row not in (DATA / "README.md").read_text():
+        stop(f"data/README.md has no row that begins with: {row}")
+
+
+# ---------------------------------------------------------------------------- words
+
+def some_value(rng, size):
+    """Zero and all ones often: special cases are there."""
+    return rng.choice([0, (1 << size) - 1, rng.getrandbits(size), rng.getrandbits(size)])
+
+
+def made_word(rng, instruction, width):
+    """The instruction with some values in its fields, and anything below its own bits."""
+    word = mask_and_value(instruction.pattern, width)[1] | rng.getrandbits(width - len(instruction.pattern))
+    for lowest, size in fields_of(instruction.pattern, width):
+        word |= some_value(rng, size) << lowest
+    return word
+
+
+def some_words(rng, one, tally):
+    """Words made of every entry, their one-bit neighbours, and random words."""
+    width, instructions = one.set.width, one.set.instructions
+    made = [made_word(rng, instruction, width) for instruction in instructions
+            for _ in range(max(WORDS_AT_LEAST_EACH, MADE_WORDS // len(instructions)))]
+    neighbours = [word ^ 1 << rng.randrange(width) for word in made]
+    tally[f"{one.name}, made"] += len(made)
+    tally[f"{one.name}, neighbours"] += len(neighbours)
+    tally[f"{one.name}, random"] += RANDOM_WORDS
+    return made + neighbours + [rng.getrandbits(width) for _ in range(RANDOM_WORDS)]
+
+
+def lookups(path, words, asked):
+    """Probe's lines for many lookups in one table, whose words are packed only once."""
+    start = probe.pack([2, *probe.run_of(words)])
+    together = probe.MOST_BYTES // (len(start) + 4)
+    lines = []
+    for at in range(0, len(asked), together):
+        lines += probe.lines_of(path, b"".join(start + probe.pack([word]) for word in asked[at:at + together]))
+    return lines
+
+
+def manual_name(name, word):
+    return MANUALS[name].name_of(word) or NOTHING
+
+
+def compare_words(path, rng, one, tally):
+    asked = some_words(rng, one, tally)
+    for word, line in zip(asked, lookups(path, one.words, asked), strict=True):
+        answer = select(one.table, word)
+        probe.stop_at_difference(f"{one.name}, lookup", ("lookup", one.words, word), f"2 0 0 00000000 {answer}", line)
+        if manual_name(one.name, word) != one.mnemonic(answer):
+            stop(f"{one.name}, {word:08x}: the table says {one.mnemonic(answer)}, the manual {manual_name(one.name, word)}")
+        tally[one.name] += 1
+        tally[f"{one.name}, entry {answer}"] += 1
+
+
+def compare_known(path, one, tally):
+    known = KNOWN[one.name]
+    for (word, mnemonic), line in zip(known.items(), lookups(path, one.words, list(known)), strict=True):
+        answer = line.split(" ")[4]
+        seen = one.mnemonic(NOTHING if answer == NOTHING else int(answer))
+        if not seen == mnemonic == manual_name(one.name, word):
+            stop(f"{one.name}, {word:08x}: {mnemonic} is known, seen {seen}, by the manual {manual_name(one.name, word)}")
+        tally["known"] += 1
+
+
+def listed_name(one, item):
+    """Kind 12 has an entry, kind 13 nothing, kind 14 is an instruction that the image's end cuts off."""
+    if item >> 28 == 12:
+        return one.mnemonic(item >> 20 & 0xFF)
+    return {13: NOTHING, 14: "cut off"}[item >> 28]
+
+
+def compare_listing(path, one, tree, tally):
+    """The lister on AVR code."""
+    line = probe.ask(path, [("list", one.words, tree, AVR_PROGRAM, [0] * (len(AVR_PROGRAM) // 2))])[0]
+    items = [int(item, 16) for item in line.partition("| ")[2].split()][:int(line.split(" ")[4])]
+    seen = [f"{item & 0xFFFFF} {listed_name(one, item)}" for item in items]
+    if seen != AVR_LISTING:
+        stop(f"AVR program: expected {AVR_LISTING}, seen {seen}")
+    tally["listed"] += len(items)
+
+
+# ---------------------------------------------------------------------------- altered sets, which must be noticed
+
+def altered(rng, instruction):
+    """The instruction with one opcode bit turned over, or without its last condition."""
+    if instruction.conditions and rng.random() < 0.4:
+        return replace(instruction, conditions=instruction.conditions[:-1])
+    at = rng.choice([place for place, bit in enumerate(instruction.pattern) if bit in "01"])
+    turned = "10"[int(instruction.pattern[at])]
+    return replace(instruction, pattern=instruction.pattern[:at] + turned + instruction.pattern[at + 1:])
+
+
+def excluded_words(rng, instruction, width):
+    """Words of the instruction on which one of its conditions looks: made words with the condition's bits put in."""
+    for condition in instruction.conditions:
+        mask, value = mask_and_value(condition.matching.replace(" ", ""), width)
+        yield made_word(rng, instruction, width) & ~mask | value
+
+
+def noticed(rng, one, number):
+    """Whether the manual's decoder differs from the set with this entry altered."""
+    before = one.set.instructions[number]
+    after = altered(rng, before)
+    entries = [*one.set.instructions[:number], after, *one.set.instructions[number + 1:]]
+    other = ready(one.name, replace(one.set, instructions=tuple(entries)))
+    for _ in range(WORDS_FOR_ALTERED):
+        for word in (made_word(rng, before, 32), made_word(rng, after, 32), *excluded_words(rng, before, 32)):
+            if other.mnemonic(select(other.table, word)) != manual_name(one.name, word):
+                return True
+    stop(f"{one.name}, entry {number}: {before} altered to {after} isn't noticed")
+
+
+def notice_altered(rng, one, tally):
+    for number in rng.sample(range(len(one.set.instructions)), ALTERED):
+        tally["altered"] += noticed(rng, one, number)
+
+
+# ---------------------------------------------------------------------------- all of it
+
+def least(sets):
+    needed = {"known": 85, "listed": len(AVR_LISTING), "altered": ALTERED * len(sets), "tree lines": 10000}
+    for one in sets:
+        needed |= {one.name: 20000, f"{one.name}, made": 7000, f"{one.name}, neighbours": 7000}
+        needed |= {f"{one.name}, entry {NOTHING}": 300}
+        needed |= {f"{one.name}, entry {number}": 10 for number in range(len(one.set.instructions))}
+    return needed
+
+
+def main():
+    path, mktree_path = probe.path_from_arguments(), mktree.path_from_arguments(2)
+    rng, tally = random.Random(SEED), Counter()
+    sets = [ready(name, one) for name, one in make.SETS.items()]
+    if sorted(file.stem for file in DATA.glob("*.table")) != sorted(MANUALS) or list(make.SETS) != list(MANUALS):
+        stop("data/ has other tables than this test knows")
+    for one in sets:
+        compare_file(path, one)
+        tree = compare_tree(path, mktree_path, one, tally)
+        compare_readme(one, tree)
+        compare_known(path, one, tally)
+        compare_words(path, rng, one, tally)
+        notice_altered(rng, one, tally)
+        if one.name == "avr":
+            compare_listing(path, one, tree, tally)
+    probe.require_enough(tally, least(sets))
+    said = ", ".join(f"{one.name}: {tally[one.name]}" for one in sets)
+    print(f"compare_data good: {len(sets)} sets, {tally['tree lines']} tree words; words by set {said}; "
+          f"{tally['known']} known words, {tally['listed']} items listed, {tally['altered']} altered sets noticed")
+
+
+if __name__ == "__main__":
+    main()
