@@ -56,7 +56,7 @@ pub enum Checked {
     Refused(u32, u32),
 }
 
-// Whether a tree is right for a table: every word of the width walks to what it selects.
+// Whether a tree is right for a table, node by node; then every word of the width walks to what it selects.
 pub fn check(table: &[u32], tree: &[u32]) -> Checked
     ensures { λ r. ⌜ said r ≡ checkOf (readTable (now (table .entry))) (now (tree .entry)) ⌝ }
 {
