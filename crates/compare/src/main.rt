@@ -82,12 +82,14 @@ fn encodes(table: &[u32], entry: u32, values: &[u32; 8], count: u32, w: u32) -> 
     }
 }
 
-// Whether decoding a word answers what is expected, and encoding its values makes the word again.
+// Whether decoding a word answers what is expected, with the values that the paper names, and
+// encoding them makes the word again.
 fn comes_back(source: Source, table: &[u32], w: u32, expected: u32) -> bool {
     let mut values = [0u32; 8];
     match operands::decode(table, w, &mut values) {
         Decoding::Entry(entry, count) => {
-            if entry != expected {
+            let found = others::joined(values[0], values[1], values[2]);
+            if entry != expected || !others::has_fields(source, entry, w, found) {
                 return false;
             }
             encodes(table, entry, &values, count, others::own(source, entry, w))
@@ -219,7 +221,12 @@ fn report_01() {
     report(b"01 printed", Source::Printed, &tables::PRINTED, 4);
     report(b"01 0-- --0", Source::TwoZeros, &tables::TWO_ZEROS, 8);
     report(b"01 0-- --0 0-0", Source::WithThird, &tables::WITH_THIRD, 8);
-    report(b"01 0-- -00", Source::MoreMaskBits, &tables::MORE_MASK_BITS, 8);
+    report(
+        b"01 0-- -00",
+        Source::MoreMaskBits,
+        &tables::MORE_MASK_BITS,
+        8,
+    );
 }
 
 fn report_000() {
@@ -235,8 +242,18 @@ fn report_001() {
 }
 
 fn report_003() {
-    report(b"003 figure 1 (a)", Source::WellFormed, &tables::WELL_FORMED, 32);
-    report(b"003 figure 1 (b)", Source::NotWellFormed, &tables::NOT_WELL_FORMED, 32);
+    report(
+        b"003 figure 1 (a)",
+        Source::WellFormed,
+        &tables::WELL_FORMED,
+        32,
+    );
+    report(
+        b"003 figure 1 (b)",
+        Source::NotWellFormed,
+        &tables::NOT_WELL_FORMED,
+        32,
+    );
 }
 
 fn report_004() {

@@ -107,7 +107,7 @@ fn table_1(w: u32) -> u32 {
     match (w >> 6) & 3 {
         0 => 0,
         1 => 1,
-        2 => if c == 0 { 2 } else if c == 1 { 3 } else { NOTHING },
+        2 => if c < 2 { 2 + c } else { NOTHING },
         _ => NOTHING,
     }
 }
@@ -136,7 +136,11 @@ fn table_2(w: u32) -> u32 {
     if top == 0 && a == 0 && c == 2 {
         return 5;
     }
-    if (top == 0 || top == 1) && a == 3 { 6 } else { NOTHING }
+    if (top == 0 || top == 1) && a == 3 {
+        6
+    } else {
+        NOTHING
+    }
 }
 
 // 003, figure 1 (a).
@@ -182,7 +186,11 @@ fn mixed(w: u32) -> u32 {
     if high >> 11 == 0x1a {
         return 2;
     }
-    if high == 0x5607 { resolve_32(w & 0xffff) } else { NOTHING }
+    if high == 0x5607 {
+        resolve_32(w & 0xffff)
+    } else {
+        NOTHING
+    }
 }
 
 // What the other decoder of a table says of a word.
@@ -226,5 +234,43 @@ pub fn word_at(source: Source, n: u32) -> u32 {
         }
     } else {
         n
+    }
+}
+
+// The values of up to three fields, in one number; zero where there is no field.
+pub fn joined(first: u32, second: u32, third: u32) -> u32 {
+    (first << 16) | (second << 8) | third
+}
+
+// 001, tables I and II: the columns a, b, c and f of an instruction, from the left.
+fn fields_001(entry: u32, w: u32) -> u32 {
+    let a = (w >> 4) & 3;
+    let b = (w >> 2) & 3;
+    let c = w & 3;
+    match entry {
+        0 | 1 => joined(a, b, c),
+        2 | 3 => joined(a, b, 0),
+        4 | 5 => joined(b, 0, 0),
+        _ => joined((w >> 6) & 1, b, c),
+    }
+}
+
+// 004, table 2: the digits n, C and L of a machine instruction, from the left.
+fn fields_004(entry: u32, w: u32) -> u32 {
+    let high = w >> 16;
+    match entry {
+        0 | 1 => joined(high & 0xff, 0, 0),
+        2 => joined((high >> 8) & 7, high & 0xff, 0),
+        _ => joined(w & 0xff, 0, 0),
+    }
+}
+
+// Whether the values of a word's fields are those that the paper names. Papers 000 and 003 name
+// none.
+pub fn has_fields(source: Source, entry: u32, w: u32, found: u32) -> bool {
+    match source {
+        Source::Table1 | Source::Table2 => fields_001(entry, w) == found,
+        Source::Mixed => fields_004(entry, w) == found,
+        _ => true,
     }
 }
