@@ -161,7 +161,6 @@ fn say_agreed(source: Source, table: &[u32], tree: &[u32], count: u32) {
     } else {
         say(b", same");
     }
-    say(b"\n");
 }
 
 // What the checker says of a tree.
@@ -215,6 +214,7 @@ fn report(name: &[u8], source: Source, table: &[u32], count: u32) {
     say(b": ");
     say_counts(source, table, count);
     compare(source, table, count);
+    say(b"\n");
 }
 
 fn report_01() {
@@ -234,6 +234,8 @@ fn report_000() {
     report(b"000 (1)", Source::Example1, &tables::EXAMPLE_1, 8);
     report(b"000 (4)", Source::Example4, &tables::EXAMPLE_4, 16);
     report(b"000 (5)", Source::Example5, &tables::EXAMPLE_5, 8);
+    report(b"000 (6)", Source::Example6, &tables::EXAMPLE_6, 16);
+    report(b"000 (7)", Source::Example7, &tables::EXAMPLE_7, 16);
 }
 
 fn report_001() {

@@ -15,6 +15,8 @@ pub enum Source {
     Example1,
     Example4,
     Example5,
+    Example6,
+    Example7,
     Table1,
     Table2,
     WellFormed,
@@ -99,6 +101,29 @@ fn example_5(w: u32) -> u32 {
         return 1;
     }
     if b1 == 1 && b2 == 0 { 2 } else { NOTHING }
+}
+
+// 000, (6): "A is the default node since the bit patterns of B and C are both subsumed."
+fn example_6(w: u32) -> u32 {
+    let b2 = (w >> 1) & 1;
+    let b3 = w & 1;
+    if w >> 2 != 2 {
+        return NOTHING;
+    }
+    if b2 == 1 {
+        return 0;
+    }
+    if b3 == 1 { 1 } else { 2 }
+}
+
+// 000, (7): "undecidable as A and B", the default nodes.
+fn example_7(w: u32) -> u32 {
+    match example_6(w) {
+        0 => AMBIGUOUS,
+        1 => 2,
+        2 => 3,
+        _ => NOTHING,
+    }
 }
 
 // 001, table I, columns 7, 6 and c.
@@ -204,6 +229,8 @@ pub fn select(source: Source, w: u32) -> u32 {
         Source::Example1 => example_1(w),
         Source::Example4 => example_4(w),
         Source::Example5 => example_5(w),
+        Source::Example6 => example_6(w),
+        Source::Example7 => example_7(w),
         Source::Table1 => table_1(w),
         Source::Table2 => table_2(w),
         Source::WellFormed => well_formed(w),

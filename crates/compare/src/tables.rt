@@ -141,6 +141,49 @@ pub const EXAMPLE_5: [u32; 13] = [
     0x30000201,
 ];
 
+// 000, (6) in section 3.1.
+pub const EXAMPLE_6: [u32; 12] = [
+    0x10030004,
+    // A 10**
+    0x20410410,
+    0xc,
+    0x8,
+    0x30000002,
+    // B 100*
+    0x20420410,
+    0xe,
+    0x8,
+    0x30000001,
+    // C 1000
+    0x20430400,
+    0xf,
+    0x8,
+];
+
+// 000, (7) in section 3.1. The paper builds no tree for it.
+pub const EXAMPLE_7: [u32; 16] = [
+    0x10040004,
+    // A 10**
+    0x20410410,
+    0xc,
+    0x8,
+    0x30000002,
+    // B 10**
+    0x20420410,
+    0xc,
+    0x8,
+    0x30000002,
+    // C 100*
+    0x20430410,
+    0xe,
+    0x8,
+    0x30000001,
+    // D 1000
+    0x20440400,
+    0xf,
+    0x8,
+];
+
 // 001, table I, with the fields a, b and c of its columns.
 pub const TABLE_1: [u32; 23] = [
     0x10040008,
