@@ -68,11 +68,11 @@ fn walked(tree: &[u32], w: u32) -> u32 {
 }
 
 // Whether an entry's values make a word.
-fn encodes(table: &[u32], entry: u32, values: &[u32; 8], count: u32, w: u32) -> bool {
-    if 8 < count {
+fn encodes(table: &[u32], entry: u32, values: &[u32], count: u32, w: u32) -> bool {
+    let n = count as usize;
+    if values.len() < n {
         return false;
     }
-    let n = count as usize;
     match operands::encode(table, entry, &values[..n]) {
         Encoding::Word(made) => made == w,
         Encoding::NotSelected(_) => false,
@@ -173,9 +173,9 @@ fn say_check(table: &[u32], tree: &[u32]) {
 }
 
 // The words of a tree in its buffer: none if there are not so many, which no walk and no check takes.
-fn tree_in(room: &[u32; TREE_ROOM], count: u32) -> &[u32] {
+fn tree_in(room: &[u32], count: u32) -> &[u32] {
     let n = count as usize;
-    if TREE_ROOM < n {
+    if room.len() < n {
         return &room[..0];
     }
     &room[..n]
