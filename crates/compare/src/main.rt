@@ -126,15 +126,24 @@ fn agreed(source: Source, table: &[u32], tree: &[u32], count: u32) -> u32 {
     n
 }
 
-// How many words have an answer from one number on, and below another.
+// One if an answer is from one number on, and below another; else none.
+fn one_between(answer: u32, from: u32, below: u32) -> u32
+    ensures { λ r. ⌜ r ≤ 1 ⌝ }
+{
+    if from <= answer && answer < below {
+        1
+    } else {
+        0
+    }
+}
+
+// How many words have such an answer.
 fn count_between(source: Source, table: &[u32], from: u32, below: u32, count: u32) -> u32 {
     let mut n: u32 = 0;
     let mut found: u32 = 0;
     while n < count {
         let answer = looked_up(table, others::word_at(source, n));
-        if from <= answer && answer < below {
-            found += 1;
-        }
+        found += one_between(answer, from, below);
         n += 1;
     }
     found
@@ -202,7 +211,7 @@ fn compare(source: Source, table: &[u32], count: u32) {
         Generated::NoFit => say_refusal(5, 0, 0),
         Generated::Ambiguous(word) => {
             say_refusal(6, 0, word);
-            say_agreed(source, table, &room[..0], count);
+            say_agreed(source, table, tree_in(&room, 0), count);
         }
         Generated::Refused(number, place) => say_refusal(number, place, 0),
     }
@@ -265,9 +274,11 @@ fn report_004() {
 // The first of an entry's values, each after a space.
 fn say_values(values: &[u32; 8], count: u32) {
     let mut k: u32 = 0;
-    while k < count && k < 8 {
-        say(b" ");
-        say_number(values[k as usize]);
+    while k < 8 {
+        if k < count {
+            say(b" ");
+            say_number(values[k as usize]);
+        }
         k += 1;
     }
 }
@@ -333,30 +344,37 @@ fn say_reading(table: &[u32]) {
     say(b"\n");
 }
 
-// The words of 257 entries, each of which is 0 at width 1.
-const MANY: usize = 772;
+// A word of a table whose entries are all 0 at width 1, three words each.
+fn many_word(head: u32, at: usize) -> u32 {
+    if at == 0 {
+        return head;
+    }
+    match at % 3 {
+        1 => 0x20000100,
+        2 => 1,
+        _ => 0,
+    }
+}
 
-// Fills a table with entries, as many as its words take.
-fn fill_entries(words: &mut [u32; MANY]) {
-    let mut at: usize = 1;
-    while at + 3 <= MANY {
-        words[at] = 0x20000100;
-        words[at + 1] = 1;
-        words[at + 2] = 0;
-        at += 3;
+// Fills a table with as many such entries as its words take.
+fn fill_many(words: &mut [u32], head: u32) {
+    let mut at: usize = 0;
+    while at < words.len() {
+        words[at] = many_word(head, at);
+        at += 1;
     }
 }
 
 // Document 01, Run: "256 entries pass, 257 give 1."
 fn run_many() {
-    let mut words = [0u32; MANY];
-    fill_entries(&mut words);
-    words[0] = 0x11000001;
+    let mut most = [0u32; 769];
+    fill_many(&mut most, 0x11000001);
     say(b"256 entries: ");
-    say_reading(&words[..769]);
-    words[0] = 0x11010001;
+    say_reading(&most);
+    let mut more = [0u32; 772];
+    fill_many(&mut more, 0x11010001);
     say(b"257 entries: ");
-    say_reading(&words);
+    say_reading(&more);
 }
 
 // Document 01, Run: decoding and encoding with the worked table.
@@ -369,11 +387,17 @@ fn run_worked() {
 
 // Document 01, Run: which trees fit. That 8 words take what 7 do not is that there are 7 nodes.
 fn run_fit() {
-    let mut room = [0u32; 8];
+    let mut eight = [0u32; 8];
     say(b"0-- and --0 in 8 words: ");
-    say_generating(&tables::TWO_ZEROS, &mut room);
+    say_generating(&tables::TWO_ZEROS, &mut eight);
+    let mut seven = [0u32; 7];
     say(b"0-- and --0 in 7 words: ");
-    say_generating(&tables::TWO_ZEROS, &mut room[..7]);
+    say_generating(&tables::TWO_ZEROS, &mut seven);
+}
+
+// Document 01, Run: "With 0-0 added", and 'Mistakes to exclude': "with 0-- and -00".
+fn run_third() {
+    let mut room = [0u32; 8];
     say(b"with 0-0 added in 8 words: ");
     say_generating(&tables::WITH_THIRD, &mut room);
     say(b"its word 0: ");
@@ -405,6 +429,7 @@ fn run_printed() {
 fn main() {
     run_worked();
     run_fit();
+    run_third();
     run_many();
     run_printed();
     report_01();

@@ -19,6 +19,9 @@ word-at-requires c κs = search needs
 looked-up-requires : tie.Need-looked-up-requires Inv-loop μ-loop
 looked-up-requires c κs = search needs
 
+one-between-requires : tie.Need-one-between-requires Inv-loop μ-loop
+one-between-requires c κs = search needs
+
 add-found : tie.Need-add-found Inv-loop μ-loop
 add-found c = search needs
 
@@ -43,6 +46,7 @@ count-between-spec =
     loop-holds
     word-at-requires
     looked-up-requires
+    one-between-requires
     add-found
     add-n
     loop-less
