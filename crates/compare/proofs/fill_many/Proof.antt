@@ -1,16 +1,17 @@
 -- `compare::fill_many` is safe and ends. Assumes nothing.
 use Prim.Native.Nat.{_-_, _≤_}
 use mathlib.Core.Path.{_≡_}
-use lib.ListN.{length}
+use native.Mathlib.Omega.{arith}
+use lib.ListN.{length, length-set}
 use borrow.Author.Needs.{needs}
 use Rattle.compare.proofs.fill_many.Statement.{statement}
 use Rattle.compare.proofs.fill_many.Tie as tie
 
 abbrev Inv-loop : tie.InvT-loop
-Inv-loop words₀ head at₀ words at = (at ≤ length words) × (length words ≡ length words₀)
+Inv-loop words₀ head at₀ words at = (at ≤ length words₀) × (length words ≡ length words₀)
 
 abbrev μ-loop : tie.MeasureT-loop
-μ-loop words₀ head at₀ words at = length words - at
+μ-loop words₀ head at₀ words at = length words₀ - at
 
 loop-holds : tie.Need-loop-holds Inv-loop μ-loop
 loop-holds c = search needs
@@ -31,7 +32,7 @@ loop-less : tie.Need-loop-less Inv-loop μ-loop
 loop-less c = search needs
 
 loop-again : tie.Need-loop-again Inv-loop μ-loop
-loop-again c = search needs
+loop-again c = (omega arith, simp length-set (c .before .before .loop .inv .1))
 
 same-length : tie.Need-same-length Inv-loop μ-loop
 same-length c = search needs

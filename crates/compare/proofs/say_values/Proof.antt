@@ -43,9 +43,6 @@ loop-again c = search needs
 returns : tie.Need-returns Inv-loop μ-loop
 returns c = search needs
 
-returns-2 : tie.Need-returns-2 Inv-loop μ-loop
-returns-2 c = search needs
-
 pub say-values-spec : {M : Type 1} → statement M
 say-values-spec =
     tie.close
@@ -62,5 +59,4 @@ say-values-spec =
     add-k
     loop-less
     loop-again
-    returns
-    returns-2)
+    returns)

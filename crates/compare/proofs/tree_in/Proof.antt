@@ -1,22 +1,20 @@
+-- `compare::tree_in` is safe and ends. The part lent is within the buffer. Assumes nothing.
+use mathlib.Core.Path.{sym}
+use lib.Seq.{length-take-le}
+use native.Mathlib.Omega.{arith}
 use borrow.Author.Needs.{needs}
 use Rattle.compare.proofs.tree_in.Statement.{statement}
 use Rattle.compare.proofs.tree_in.Tie as tie
-use Rattle.compare.proofs.tree_in.Reads as reads
-use Rattle.compare.proofs.tree_in.Lts as lts
 
--- src/main.rt:179:9
 slice-aggregate-result : tie.Need-slice-aggregate-result
 slice-aggregate-result c = search needs
 
--- src/main.rt:179:9
 returns : tie.Need-returns
 returns c = search needs
 
--- src/main.rt:181:5
 slice-aggregate-result-2 : tie.Need-slice-aggregate-result-2
-slice-aggregate-result-2 c = ?
+slice-aggregate-result-2 c = sym (length-take-le _ _ (omega arith))
 
--- src/main.rt:176:1
 returns-2 : tie.Need-returns-2
 returns-2 c = search needs
 
