@@ -58,12 +58,12 @@ def compare(program, other, files):
 
 
 def measure(program, other, files, empty):
-    started = take_turns([program, other], str(empty), REPEATS)
+    started = take_turns([(program, empty), (other, empty)], REPEATS)
     print(f"load before: {load()}; ms by the clock, {REPEATS} turns: best, median, worst")
     print(f"{'no entries':36} mktree {started[0].text()}   C {started[1].text()}")
     worst = 0
     for name, file in files:
-        proved, in_c = take_turns([program, other], str(file), REPEATS)
+        proved, in_c = take_turns([(program, file), (other, file)], REPEATS)
         ratio = (proved.best() - started[0].best()) / max(in_c.best() - started[1].best(), 1e-9)
         processor = (proved.best_processor() - started[0].best_processor()) / max(in_c.best_processor() - started[1].best_processor(), 1e-9)
         said = f"ratio of best {ratio:5.2f}, of processor time {processor:5.2f}"

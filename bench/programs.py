@@ -36,10 +36,10 @@ def run_once(program, file):
     return taken, usage.ru_utime + usage.ru_stime
 
 
-def take_turns(programs, file, repeats):
-    """Times for each program; they take turns, so that what else the machine does meets all of them."""
-    taken = [[run_once(program, file) for program in programs] for _ in range(repeats)]
-    return [Times([turn[at][0] for turn in taken], [turn[at][1] for turn in taken]) for at in range(len(programs))]
+def take_turns(runs, repeats):
+    """Times for each run, a program and its file; they take turns, so that what else the machine does meets all of them."""
+    taken = [[run_once(program, str(file)) for program, file in runs] for _ in range(repeats)]
+    return [Times([turn[at][0] for turn in taken], [turn[at][1] for turn in taken]) for at in range(len(runs))]
 
 
 def load():
