@@ -7,6 +7,7 @@ is all. From each time that of a table without entries is subtracted: starting a
 import random
 import sys
 from pathlib import Path
+from statistics import median
 
 sys.path.insert(0, str(Path(__file__).resolve().parent.parent / "tests"))
 
@@ -17,7 +18,7 @@ from programs import load, take_turns
 from second import examples, tables
 
 REPEATS = 15
-LEAST_SECONDS = 0.0005      # what takes less is compared but gives no ratio: the start of a process varies too much
+LEAST_MS = 0.4              # what takes C less is compared but gives no ratio: the start of a process varies too much
 NO_ENTRIES = [0x10000020]
 
 
@@ -57,22 +58,27 @@ def compare(program, other, files):
     print(f"generate: the same lines for {len(files)} tables")
 
 
+def ratio_text(proved, in_c, starts):
+    """The ratio of the best runs, and the least, middle and largest of the turns; None where C takes too short a time."""
+    if in_c.less(starts[1]) < LEAST_MS:
+        return None, "too short for a ratio"
+    start, start_c = min(starts[0].processor), min(starts[1].processor)
+    turns = sorted((a - start) / (b - start_c) for a, b in zip(proved.processor, in_c.processor))
+    ratio = proved.less(starts[0]) / in_c.less(starts[1])
+    return ratio, f"ratio {ratio:5.2f}; of turns {turns[0]:5.2f} {median(turns):5.2f} {turns[-1]:5.2f}"
+
+
 def measure(program, other, files, empty):
-    started = take_turns([(program, empty), (other, empty)], REPEATS)
-    print(f"load before: {load()}; ms by the clock, {REPEATS} turns: best, median, worst")
-    print(f"{'no entries':36} mktree {started[0].text()}   C {started[1].text()}")
-    worst = 0
-    for name, file in files:
-        proved, in_c = take_turns([(program, file), (other, file)], REPEATS)
-        ratio = (proved.best() - started[0].best()) / max(in_c.best() - started[1].best(), 1e-9)
-        processor = (proved.best_processor() - started[0].best_processor()) / max(in_c.best_processor() - started[1].best_processor(), 1e-9)
-        said = f"ratio of best {ratio:5.2f}, of processor time {processor:5.2f}"
-        if in_c.best() - started[1].best() < LEAST_SECONDS:
-            said = "too short for a ratio"
-        else:
-            worst = max(worst, ratio)
-        print(f"{name:36} mktree {proved.text()}   C {in_c.text()}   {said}", flush=True)
-    print(f"largest ratio of best, mktree to C: {worst:.2f}; load after: {load()}")
+    print(f"load before: {load()}; {REPEATS} turns; ms by the clock: best, median, worst; ratios are of processor time, less the start")
+    runs = [(one, file) for _, file in [("", empty), *files] for one in (program, other)]
+    times = take_turns(runs, REPEATS)
+    starts, worst = times[:2], 0
+    print(f"{'no entries':36} mktree {starts[0].text()}   C {starts[1].text()}")
+    for (name, _), proved, in_c in zip(files, times[2::2], times[3::2], strict=True):
+        ratio, said = ratio_text(proved, in_c, starts)
+        worst = max(worst, ratio or 0)
+        print(f"{name:36} mktree {proved.text()}   C {in_c.text()}   {said}")
+    print(f"largest ratio, mktree to C: {worst:.2f}; load after: {load()}")
 
 
 def main():

@@ -19,6 +19,7 @@ from second.tables import EntryPlan, TablePlan, span
 
 SEED = 12
 REPEATS = 15
+LOOKUP_REPEATS = 60     # an input holds few requests for a large table, so a run is short
 WIDTH = 32
 NO_ENTRIES = [0x10000020]
 
@@ -57,20 +58,23 @@ def nodes_printed(text):
 
 
 def measure_generating(program, directory, rng):
+    series = list(generating_series(rng))
     empty = directory / "growth.empty"
     empty.write_bytes(pack(NO_ENTRIES))
-    started = take_turns([(program, empty)], REPEATS)[0].best()
-    print(f"mktree, ms less {1000 * started:.2f} for a table without entries; load {load()}")
-    for name, size, plan in generating_series(rng):
-        words = tables.lay_out(plan).words
-        file = directory / "growth.table"
-        file.write_bytes(pack(words))
+    runs, laid = [(program, empty)], []
+    for number, (_, _, plan) in enumerate(series):
+        file = directory / f"growth.{number}"
+        laid.append(tables.lay_out(plan).words)
+        file.write_bytes(pack(laid[-1]))
+        runs.append((program, file))
+    print(f"mktree: load {load()}; {REPEATS} turns; ms by the clock: best, median, worst; then ms of the processor, best, less the start")
+    start, *times = take_turns(runs, REPEATS)
+    print(f"no entries: {start.text()}")
+    for (name, size, plan), words, taken, (_, file) in zip(series, laid, times, runs[1:], strict=True):
         nodes = nodes_printed(mktree.text_of(program, file.read_bytes()))
-        times = take_turns([(program, file)], REPEATS)[0]
-        best = times.best() - started
         conditions = sum(len(entry.conditions) for entry in plan.entries)
         print(f"{name:14} {size:6}: {len(plan.entries):3} entries, {conditions:3} conditions, {nodes:5} nodes, {len(words):5} words: "
-              f"best, median, worst {times.text()}; less the start {1000 * best:8.2f}; {1e9 * best / nodes:8.0f} ns a node", flush=True)
+              f"{taken.text()}; {taken.less(start):8.2f}; {1e6 * taken.less(start) / nodes:8.0f} ns a node")
 
 
 # ---------------------------------------------------------------------------- lookup
@@ -111,22 +115,24 @@ def batch_of(kind, words, rng):
 
 
 def measure_lookup(program, directory, rng):
+    series = list(lookup_series(rng))
     empty = directory / "growth.nothing"
     empty.write_bytes(b"")
-    started = take_turns([(program, empty)], REPEATS)[0].best()
-    print(f"probe, us a request (best of {REPEATS}, less {1000 * started:.2f} ms for the start); a lookup reads the table first; load {load()}")
-    for name, size, plan in lookup_series(rng):
-        words = tables.lay_out(plan).words
-        runs, figures = [], []
+    runs, counts = [(program, empty)], []
+    for number, (_, _, plan) in enumerate(series):
         for kind in ("read", "lookup"):
-            data, count = batch_of(kind, words, rng)
-            file = directory / f"growth.{kind}"
+            data, count = batch_of(kind, tables.lay_out(plan).words, rng)
+            file = directory / f"growth.{kind}.{number}"
             file.write_bytes(data)
             runs.append((program, file))
-        for times in take_turns(runs, REPEATS):
-            figures += [1e6 * (one - started) / count for one in (times.best(), sorted(times.clock)[REPEATS // 2], max(times.clock))]
-        print(f"{name:14} {size:6}: {len(plan.entries):3} entries, {len(words):5} words: read {figures[0]:8.2f} {figures[1]:8.2f} {figures[2]:8.2f}"
-              f"   lookup {figures[3]:8.2f} {figures[4]:8.2f} {figures[5]:8.2f}   lookup less read {figures[3] - figures[0]:8.2f}", flush=True)
+        counts.append(count)
+    print(f"probe: load {load()}; {LOOKUP_REPEATS} turns; us of the processor for a request, best, less the start; a lookup reads the table first")
+    start, *times = take_turns(runs, LOOKUP_REPEATS)
+    for (name, size, plan), count, read, lookup in zip(series, counts, times[::2], times[1::2], strict=True):
+        words = len(tables.lay_out(plan).words)
+        figures = [1000 * one.less(start) / count for one in (read, lookup)]
+        print(f"{name:14} {size:6}: {len(plan.entries):3} entries, {words:5} words, {count:4} requests: "
+              f"read {figures[0]:8.2f}   lookup {figures[1]:8.2f}   lookup less read {figures[1] - figures[0]:8.2f}")
 
 
 def main():

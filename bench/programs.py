@@ -12,15 +12,13 @@ class Times:
     clock: list
     processor: list
 
-    def best(self):
-        return min(self.clock)
-
-    def best_processor(self):
-        return min(self.processor)
-
-    def text(self, scale=1000):
+    def text(self):
         """best, median and worst by the clock, in milliseconds"""
-        return f"{scale * min(self.clock):8.2f} {scale * median(self.clock):8.2f} {scale * max(self.clock):8.2f}"
+        return f"{1000 * min(self.clock):8.2f} {1000 * median(self.clock):8.2f} {1000 * max(self.clock):8.2f}"
+
+    def less(self, start):
+        """Milliseconds of the processor, the best run less the best of a run with nothing to do."""
+        return 1000 * (min(self.processor) - min(start.processor))
 
 
 def run_once(program, file):
@@ -37,7 +35,8 @@ def run_once(program, file):
 
 
 def take_turns(runs, repeats):
-    """Times for each run, a program and its file; they take turns, so that what else the machine does meets all of them."""
+    """Times for each run, a program and its file. All of them run once in each turn, so that a slow minute of the machine meets
+    all of them and none has all its runs in it."""
     taken = [[run_once(program, str(file)) for program, file in runs] for _ in range(repeats)]
     return [Times([turn[at][0] for turn in taken], [turn[at][1] for turn in taken]) for at in range(len(runs))]
 
