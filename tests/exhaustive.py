@@ -1,0 +1,245 @@
+"""Every table of a small family, every word: probe's lookup, generate, check and walk against the second implementation.
+
+Usage: exhaustive.py [path of probe] [long]. Exits with status 1 at the first difference. All tables are of width 3 at most:
+
+- without entries, widths 1 to 3
+- one entry, and two entries in either order: every length, every mask and value; the fewest fields cover the rest
+- one entry of every mask and value with one condition: every matching pattern, no unmatching pattern or one of at most one bit
+- long: one entry of every length with one condition, every matching pattern, no unmatching pattern or any one
+- long: two entries, the first with every condition without unmatching patterns
+
+Each table is looked up with all words and two that are too high, generated into 16 words (each tree of width 3 fits) and into as
+many as its tree has and one fewer; its tree is checked and walked with all words. Tables without conditions are also checked with all
+trees of one and three nodes (two entries: a part of them but for the long form). At the end mistakes are put into the
+second implementation one by one, and each must give another line somewhere.
+"""
+
+import itertools
+import random
+import sys
+from collections import Counter
+
+import probe
+from second import checker, selection, tree
+from second.lines import line_of
+from second.reader import Refusal
+from second.tables import EntryPlan, TablePlan, free_runs, lay_out, own_bits
+
+WIDTH = 3
+LENGTHS = (1, 2, 3)
+ROOM = 16               # a tree of width 3 has at most 15 nodes
+BUFFER = [0x5EED0000 + at for at in range(ROOM)]
+HIGH_WORDS = (1 << WIDTH, 0x80000000)
+AT_ONCE = 400           # tables asked in one go
+SEED = 13
+SOME_TABLES = 250       # for the mistakes
+PART = 9                # every so many-th table of two entries is checked with all small trees in the short form
+
+
+# ---------------------------------------------------------------------------- the family
+
+def patterns(allowed):
+    """Every mask in these bits with every value."""
+    for mask in range(allowed + 1):
+        if mask & ~allowed == 0:
+            yield from ((mask, value) for value in range(mask + 1) if value & ~mask == 0)
+
+
+def entry_of(length, mask, value, conditions=()):
+    return EntryPlan(0, length, mask, value, free_runs(WIDTH, length, mask), list(conditions))
+
+
+def plain_entries():
+    for length in LENGTHS:
+        yield from (entry_of(length, mask, value) for mask, value in patterns(own_bits(WIDTH, length)))
+
+
+def entries_with_a_condition(lengths, unmatching_too, most_bits):
+    for length in lengths:
+        own = own_bits(WIDTH, length)
+        others = [[one] for one in patterns(own) if one[0].bit_count() <= most_bits] if unmatching_too else []
+        for (mask, value), matching, unmatching in itertools.product(patterns(own), patterns(own), [[], *others]):
+            yield entry_of(length, mask, value, [(matching, unmatching)])
+
+
+def words_of(entries, width=WIDTH):
+    return lay_out(TablePlan(width, list(entries))).words
+
+
+def family(long):
+    """(name, words of the table)"""
+    for width in range(1, WIDTH + 1):
+        yield "no entries", words_of([], width)
+    plain = list(plain_entries())
+    for entry in plain:
+        yield "one entry", words_of([entry])
+    for pair in itertools.product(plain, plain):
+        yield "two entries", words_of(pair)
+    conditioned = entries_with_a_condition(LENGTHS, True, WIDTH) if long else entries_with_a_condition((WIDTH,), True, 1)
+    for entry in conditioned:
+        yield "one condition", words_of([entry])
+    if long:
+        for first, second in itertools.product(entries_with_a_condition((WIDTH,), False, 0), plain):
+            yield "two, one condition", words_of([first, second])
+
+
+# ---------------------------------------------------------------------------- questions
+
+def small_trees(entries):
+    """All trees of one node and of one test."""
+    leaves = [0xA0000000] + [0x90000000 | entry for entry in range(entries + 1)]    # one entry more than there are
+    yield from ([0x70030001, leaf] for leaf in leaves)
+    for bit, zero, one in itertools.product(range(WIDTH), leaves, leaves):
+        yield [0x70030003, 0x80000003 | bit << 23, zero, one]
+
+
+def questions_of(words, with_small_trees):
+    width = words[0] & 0xFF
+    for word in (*range(1 << width), *HIGH_WORDS):
+        yield "lookup", words, word
+    outcome, after = tree.generate(words, BUFFER)
+    yield "generate", words, BUFFER
+    if not isinstance(outcome, Refusal):
+        made = after[:outcome]
+        yield "generate", words, BUFFER[:outcome]
+        yield "generate", words, BUFFER[:outcome - 1]
+        yield "check", words, made
+        for word in (*range(1 << width), *HIGH_WORDS):
+            yield "walk", made, word
+    if with_small_trees:
+        yield from (("check", words, other) for other in small_trees(words[0] >> 16 & 0xFFF))
+
+
+def all_questions(long):
+    """(name of the table's group, question)"""
+    for number, (name, words) in enumerate(family(long)):
+        small = name in ("no entries", "one entry") or name == "two entries" and (long or number % PART == 0)
+        yield [(name, question) for question in questions_of(words, small)]
+
+
+def in_groups(questions):
+    while group := list(itertools.islice(questions, AT_ONCE)):
+        yield [asked for one_table in group for asked in one_table]
+
+
+def compare(path, long):
+    tally = Counter()
+    for group in in_groups(all_questions(long)):
+        lines = probe.ask(path, [question for _, question in group])
+        for (name, question), seen in zip(group, lines, strict=True):
+            expected = line_of(question)
+            probe.stop_at_difference(name, question, expected, seen)
+            parts = expected.split(" ")
+            tally[f"{question[0]} {parts[1]}"] += 1
+            tally[question[0]] += 1
+            tally["questions"] += 1
+    return tally
+
+
+# ---------------------------------------------------------------------------- mistakes
+
+def more_mask_bits(e, f):
+    return len(e.opcode.mask) > len(f.opcode.mask)
+
+
+def matching_alone(word_bits, condition):
+    return selection.matches(word_bits, condition.matching)
+
+
+def never_excluded(word_bits, condition):
+    return False
+
+
+def open_taken_for_sure(cell, entry):
+    status, conditions = RIGHT["tree", "entry_status"](cell, entry)
+    return (tree.SURE, []) if status == tree.OPEN and tree.implies(cell, entry.opcode) else (status, conditions)
+
+
+def clashing_only(cell, condition):
+    return tree.FAILS if tree.clashes(cell, condition.matching) else tree.OPEN if not tree.implies(cell, condition.matching) \
+        else tree.HOLDS if all(tree.clashes(cell, pattern) for pattern in condition.unmatching) else tree.OPEN
+
+
+def lowest_of_all(cell, opcodes, conditions):
+    masks = [pattern.mask for pattern in opcodes]
+    masks += [pattern.mask for condition in conditions for pattern in (condition.matching, *condition.unmatching)]
+    return min(bit for mask in masks for bit in mask - cell.fixed)
+
+
+def conflict_of_ones(nodes):
+    found = RIGHT["tree", "conflict_word"](nodes)
+    return None if found is None else 0
+
+
+def every_check_good(words, made):
+    return None
+
+
+MISTAKES = [
+    ("more mask bits counted as more specific", "more_specific", more_mask_bits),
+    ("unmatching patterns forgotten", "satisfied", matching_alone),
+    ("conditions forgotten", "satisfied", never_excluded),
+    ("a leaf for an entry still open", "entry_status", open_taken_for_sure),
+    ("a condition doesn't fail by an unmatching pattern", "condition_status", clashing_only),
+    ("lowest bit tested", "chosen_bit", lowest_of_all),
+    ("word 0 for every ambiguous table", "conflict_word", conflict_of_ones),
+    ("the checker says yes", "first_missing", every_check_good),
+]
+MODULES = {"selection": selection, "tree": tree, "checker": checker}
+RIGHT = {(name, function): getattr(module, function) for name, module in MODULES.items() for _, function, _ in MISTAKES
+         if hasattr(module, function)}
+REMEMBERED = (tree.nodes_once, checker.steps_once, checker.first_missing_once, checker.check_once)
+
+
+def put(function, mistake):
+    """Into each module that has the function by this name; None puts the right ones back. Nothing remembered may stay."""
+    for name, module in MODULES.items():
+        if (name, function) in RIGHT:
+            setattr(module, function, mistake or RIGHT[name, function])
+    for remembering in REMEMBERED:
+        remembering.cache_clear()
+
+
+def line_with(question):
+    try:
+        return line_of(question)
+    except (ValueError, RecursionError, AssertionError) as trouble:
+        return f"no line: {trouble}"
+
+
+def is_noticed(function, mistake, answered):
+    put(function, mistake)
+    noticed = any(line_with(question) != line for question, line in answered)
+    put(function, None)
+    return noticed
+
+
+def notice_mistakes():
+    """A few of the tables are enough to show each mistake."""
+    some = random.Random(SEED).sample(list(family(False)), SOME_TABLES)
+    questions = [question for _, words in some for question in questions_of(words, with_small_trees=False)]
+    questions += [("check", words, other) for _, words in some[:3] for other in small_trees(1)]
+    answered = [(question, line_of(question)) for question in questions]
+    for what, function, mistake in MISTAKES:
+        if not is_noticed(function, mistake, answered):
+            sys.exit(f"no question shows the mistake: {what}")
+    return len(MISTAKES)
+
+
+LEAST = {"lookup 0": 50000, "lookup 6": 500, "lookup 7": 10000, "generate 0": 10000, "generate 5": 5000, "generate 6": 300,
+         "check 0": 5000, "check 14": 5000, "walk 0": 50000, "walk 7": 10000}
+
+
+def main():
+    long = "long" in sys.argv[1:]
+    sys.argv = [argument for argument in sys.argv if argument != "long"]
+    tally = compare(probe.path_from_arguments(), long)
+    probe.require_enough(tally, LEAST)
+    noticed = notice_mistakes()
+    tables = sum(1 for _ in family(long))
+    counts = ", ".join(f"{name}: {tally[name]}" for name in ("lookup", "generate", "check", "walk"))
+    print(f"exhaustive good: {tables} tables, {tally['questions']} questions ({counts}); {noticed} of {len(MISTAKES)} mistakes noticed")
+
+
+if __name__ == "__main__":
+    main()

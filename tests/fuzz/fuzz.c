@@ -1,0 +1,454 @@
+/*
+ * Hostile inputs for kilnumber_walk and kilnumber_list: what they answer against reference.h, and whether they touch other memory.
+ *
+ * Usage: fuzz trees lists walks listings (files of tests/c/make_trees.py and make_lists.py, then how many of each).
+ * Inputs are altered at random; an input that came to a new place of the reference (check, index or tests passed) is kept and
+ * altered further. Everything lent lies between pages that can't be touched, and must be unchanged afterwards.
+ * With -DSTAND_IN there is no library but the reference itself, wrong in the way that a fifth argument numbers.
+ */
+
+#define _DEFAULT_SOURCE
+#include <stdio.h>
+#include <stdlib.h>
+#include <string.h>
+#include <sys/mman.h>
+#include <time.h>
+#include <unistd.h>
+
+#include "kilnumber.h"
+#include "reference.h"
+
+#define MOST_TREE_BYTES 16400u   /* of an input that is altered */
+#define MOST_KEPT 20000u
+#define WORDS_A_TREE 8u
+#define MOST_LIST_WORDS 4096u
+#define MARK 0x5eed5eedu
+#define LONG_OFTEN 100u          /* every so many-th listing lends more than 2,097,152 bytes */
+
+static void stop(const char *why) {
+    printf("fuzz: %s\n", why);
+    exit(1);
+}
+
+/* ------------------------------------------------------------------------- random numbers, the same in every run */
+
+static uint64_t state = 0x2545f4914f6cdd1du;
+
+static uint32_t any(void) {
+    state ^= state << 13;
+    state ^= state >> 7;
+    state ^= state << 17;
+    return (uint32_t)(state >> 32);
+}
+
+static uint32_t below(uint32_t limit) { return limit == 0 ? 0 : any() % limit; }
+
+/* ------------------------------------------------------------------------- memory between pages that can't be touched */
+
+struct area {
+    uint8_t *start, *guard;
+};
+
+static struct area make_area(size_t bytes) {
+    size_t page = (size_t)sysconf(_SC_PAGESIZE), room = (bytes + page - 1) / page * page;
+    uint8_t *start = mmap(NULL, room + 2 * page, PROT_READ | PROT_WRITE, MAP_PRIVATE | MAP_ANONYMOUS, -1, 0);
+    if (start == MAP_FAILED) stop("no memory");
+    if (mprotect(start, page, PROT_NONE) != 0 || mprotect(start + page + room, page, PROT_NONE) != 0) stop("no guard pages");
+    struct area area = {start + page, start + page + room};
+    return area;
+}
+
+/* Directly before the upper guard page, or directly after the lower one. */
+static uint8_t *lend(struct area area, const void *from, size_t bytes, int at_start) {
+    uint8_t *to = at_start ? area.start : area.guard - bytes;
+    if (bytes > 0) memcpy(to, from, bytes);
+    return to;
+}
+
+static void require_same(const void *lent, const void *from, size_t bytes) {
+    if (bytes > 0 && memcmp(lent, from, bytes) != 0) stop("what was lent has changed");
+}
+
+/* ------------------------------------------------------------------------- stand-in for the library */
+
+static unsigned wrong; /* a check that is left out, or one of these */
+enum { LEAF_COUNTED = LIST_END + 1, READS_PAST, WRITES_TREE, ITEM_AFTER, PLACE_AFTER, LAST_WRONG };
+
+#ifdef STAND_IN
+uint64_t kilnumber_walk(const uint8_t *tree, size_t length, uint32_t word) {
+    if (wrong == READS_PAST && ((const volatile uint8_t *)tree)[length] == 0) return 0;
+    if (wrong == WRITES_TREE && length > 0) ((volatile uint8_t *)(uintptr_t)tree)[0] = 0;
+    struct walked walked = reference_walk(tree, length, word, (enum check)wrong);
+    if (wrong == LEAF_COUNTED && walked.number == 0) walked.tests++;
+    return packed(walked);
+}
+
+uint64_t kilnumber_list(const uint32_t *table, size_t table_words, const uint32_t *tree, size_t tree_words, const uint8_t *image,
+                        size_t image_bytes, uint32_t *items, size_t room) {
+    struct lent lent = {table, tree, image, table_words, tree_words, image_bytes, room};
+    enum check stopped_by;
+    uint64_t result = reference_list(lent, items, (enum check)wrong, &stopped_by);
+    if (wrong == ITEM_AFTER && result >> 32 == 0 && result < room) items[result] = 0;
+    if (wrong == PLACE_AFTER && result >> 32 == 17) result++;
+    return result;
+}
+#endif
+
+/* ------------------------------------------------------------------------- inputs that are kept */
+
+struct input {
+    uint8_t *bytes;
+    size_t length;
+};
+
+static struct input kept[MOST_KEPT];
+static size_t kept_count;
+static uint64_t walks, listings, by_number[10], by_list_number[18], by_check[LIST_END + 1];
+
+static void keep(const uint8_t *bytes, size_t length) {
+    if (kept_count == MOST_KEPT) return;
+    struct input input = {malloc(length + 1), length};
+    if (input.bytes == NULL) stop("no memory");
+    memcpy(input.bytes, bytes, length);
+    kept[kept_count++] = input;
+}
+
+/* Whether the reference came to this for the first time. */
+static int is_new(uint32_t check, uint32_t one, uint32_t other) {
+    static uint8_t seen[LIST_END + 1][128][64];
+    uint8_t *place = &seen[check][one < 127 ? one : 127][other < 63 ? other : 63];
+    int new = *place == 0;
+    *place = 1;
+    return new;
+}
+
+/* ------------------------------------------------------------------------- altering a tree's bytes */
+
+static void put_word(uint8_t *to, uint32_t word) {
+    for (int byte = 0; byte < 4; byte++) to[byte] = (uint8_t)(word >> 8 * byte);
+}
+
+static uint32_t some_node(uint32_t index, uint32_t nodes) {
+    switch (below(6)) {
+    case 0: return 9u << 28 | below(256);
+    case 1: return 10u << 28;
+    case 2: return any();
+    case 3: return 8u << 28 | below(32) << 23 | ((index + below(4)) & 0xffff);
+    case 4: return 8u << 28 | below(32) << 23 | ((nodes + below(3) - 1) & 0xffff);
+    default: return 8u << 28 | below(32) << 23 | (index + 2 + below(8));
+    }
+}
+
+static void alter_header(uint8_t *bytes, size_t words) {
+    uint32_t header = word_at(bytes, 0);
+    switch (below(4)) {
+    case 0: header = (header & ~0xffffu) | (((uint32_t)words - 1) & 0xffff); break;
+    case 1: header = (header & ~(63u << 16)) | below(40) << 16; break;
+    case 2: header = 7u << 28 | (1 + below(32)) << 16 | (((uint32_t)words + below(3) - 2) & 0xffff); break;
+    default: header ^= 1u << below(32); break;
+    }
+    put_word(bytes, header);
+}
+
+/* The new length. */
+static size_t alter_bytes(uint8_t *bytes, size_t length) {
+    size_t words = length / 4;
+    uint32_t index = words < 2 ? 0 : 1 + below(below(2) == 0 ? (uint32_t)words - 1 : words < 9 ? (uint32_t)words - 1 : 8);
+    switch (below(10)) {
+    case 0: if (length > 0) bytes[below((uint32_t)length)] ^= (uint8_t)(1 << below(8)); return length;
+    case 1: if (length > 0) bytes[below((uint32_t)length)] = (uint8_t)any(); return length;
+    case 2: if (words > 0) alter_header(bytes, words); return length;
+    case 3: return below(2) == 0 ? below((uint32_t)length + 1) : length - (length < 8 ? 0 : below(8));
+    case 4: /* longer */
+        for (uint32_t more = 1 + below(9); more > 0 && length < MOST_TREE_BYTES; more--) bytes[length++] = (uint8_t)any();
+        return length;
+    case 5: { /* a part of another input */
+        struct input other = kept[below((uint32_t)kept_count)];
+        size_t count = other.length / 4 < words ? other.length / 4 : words;
+        if (count > 1) {
+            size_t from = 1 + below((uint32_t)count - 1), size = 1 + below((uint32_t)(count - from));
+            memcpy(bytes + 4 * from, other.bytes + 4 * from, 4 * size);
+        }
+        return length;
+    }
+    default:
+        if (index > 0) put_word(bytes + 4 * index, some_node(index, (uint32_t)words - 1));
+        return length;
+    }
+}
+
+/* ------------------------------------------------------------------------- walks */
+
+static uint32_t some_word(const uint8_t *tree, size_t length) {
+    uint32_t word = any(), width = length < 4 ? 32 : word_at(tree, 0) >> 16 & 63;
+    if (below(4) == 0) word &= any() & any();
+    return width >= 32 || below(16) == 0 ? word : word & (uint32_t)(((uint64_t)1 << width) - 1);
+}
+
+static int walk_and_compare(const uint8_t *tree, size_t length, uint32_t word) {
+    struct walked walked = reference_walk(tree, length, word, NONE);
+    uint64_t expected = packed(walked), seen = kilnumber_walk(tree, length, word);
+    if (seen != expected) {
+        printf("fuzz: a walk of %zu bytes, word %08x: expected %016llx, seen %016llx\n", length, (unsigned)word,
+               (unsigned long long)expected, (unsigned long long)seen);
+        exit(1);
+    }
+    walks++;
+    by_number[walked.number]++;
+    by_check[walked.stopped_by]++;
+    return is_new(walked.stopped_by, walked.place + (walked.stopped_by == NONE) * walked.tests, walked.nothing + walked.entry / 8);
+}
+
+static void walk_one_input(struct area area, const uint8_t *bytes, size_t length) {
+    uint8_t *tree = lend(area, bytes, length, below(4) == 0);
+    int new = 0;
+    for (uint32_t turn = 0; turn < WORDS_A_TREE; turn++) new |= walk_and_compare(tree, length, some_word(bytes, length));
+    require_same(tree, bytes, length);
+    if (new) keep(bytes, length);
+}
+
+static void fuzz_walks(uint64_t count) {
+    static uint8_t bytes[MOST_TREE_BYTES];
+    struct area area = make_area(MOST_TREE_BYTES);
+    while (walks < count) {
+        struct input from = kept[below((uint32_t)kept_count)];
+        size_t length = from.length;
+        memcpy(bytes, from.bytes, length);
+        for (uint32_t turn = 1 + below(4); turn > 0; turn--) length = alter_bytes(bytes, length);
+        walk_one_input(area, bytes, length);
+    }
+}
+
+/* ------------------------------------------------------------------------- listings */
+
+struct listing {
+    uint32_t table[MOST_LIST_WORDS], tree[MOST_LIST_WORDS];
+    uint8_t image[MOST_LIST_WORDS];
+    struct lent lent;
+};
+
+static struct listing **lists;
+static size_t list_count;
+
+static void keep_listing(const struct listing *from) {
+    if (list_count == MOST_KEPT / 20) return; /* each is 36 KB */
+    struct listing *listing = malloc(sizeof *listing);
+    if (listing == NULL) stop("no memory");
+    *listing = *from;
+    lists[list_count++] = listing;
+}
+
+static uint32_t some_table_word(void) {
+    static const uint32_t heads[] = {0x10010020, 0x10020020, 0x20001000, 0x20002010, 0x20002090, 0x20001019,
+                                     0x30000010, 0x40000000, 0x40000001, 0x40000009, 0x50000000};
+    return below(3) == 0 ? any() : heads[below(sizeof heads / sizeof heads[0])] ^ (below(3) == 0 ? 1u << below(32) : 0);
+}
+
+static size_t alter_words(uint32_t *words, size_t count, int tree) {
+    uint32_t index = below((uint32_t)count);
+    switch (below(6)) {
+    case 0: if (count > 0) words[index] ^= 1u << below(32); return count;
+    case 1: if (count > 0) words[index] = tree ? some_node(index, (uint32_t)count - 1) : some_table_word(); return count;
+    case 2: return below(2) == 0 ? index : count - (count > 0);
+    case 3: if (count < MOST_LIST_WORDS) words[count++] = any(); return count;
+    case 4: if (count > 1) words[index] = words[below((uint32_t)count)]; return count;
+    default: if (count > 0) words[0] ^= 1u << below(32); return count;
+    }
+}
+
+/* Puts a word in at an index from 1 on and moves the later ones; the tests still lead to where they led. The new count. */
+static size_t put_in(uint32_t *tree, size_t count, size_t index, uint32_t word) {
+    if (count + 1 > MOST_LIST_WORDS || index > count || count < 2) return count;
+    for (size_t at = 1; at < count; at++)
+        if (tree[at] >> 28 == 8 && (tree[at] & 0xffff) >= index) tree[at]++;
+    memmove(tree + index + 1, tree + index, 4 * (count - index));
+    tree[index] = word;
+    tree[0]++;
+    return count + 1;
+}
+
+/* Alters a tree so that single flips never do: only one part of the checker's rule is broken, or none. The new count. */
+static size_t alter_shape(uint32_t *tree, size_t count) {
+    if (count < 2 || (tree[0] & 0xffff) != count - 1) return count;
+    size_t index = 1 + below((uint32_t)count - 1);
+    uint32_t node = tree[index];
+    switch (below(4)) {
+    case 0: return put_in(tree, count, count, below(2) == 0 ? 10u << 28 : 9u << 28); /* a node that no path comes to */
+    case 1: tree[0] = (tree[0] & ~(63u << 16)) | (1 + below(40)) << 16; return count;
+    case 2: /* a gap before a one side */
+        return node >> 28 == 8 ? put_in(tree, count, node & 0xffff, 10u << 28) : count;
+    default: /* a leaf twice, and a test before it: of a bit that is tested already, or not */
+        if (node >> 28 == 8) return count;
+        count = put_in(tree, count, index + 1, node);
+        count = put_in(tree, count, index + 1, node);
+        tree[index] = 8u << 28 | below(32) << 23 | (uint32_t)(index + 2);
+        return count;
+    }
+}
+
+static void alter_listing(struct listing *listing) {
+    struct lent *lent = &listing->lent;
+    switch (below(9)) {
+    case 5:
+    case 6: lent->tree_words = alter_shape(listing->tree, lent->tree_words); break;
+    case 0: lent->table_words = alter_words(listing->table, lent->table_words, 0); break;
+    case 1: lent->tree_words = alter_words(listing->tree, lent->tree_words, 1); break;
+    case 2: { /* the tree of another table */
+        const struct listing *other = lists[below((uint32_t)list_count)];
+        memcpy(listing->tree, other->tree, sizeof listing->tree);
+        lent->tree_words = other->lent.tree_words;
+        break;
+    }
+    case 3: lent->image_bytes = below(MOST_LIST_WORDS / 32); break;
+    case 4: lent->room = below(4) == 0 ? below(4) : below(40); break;
+    default:
+        for (uint32_t turn = 0; turn < 8; turn++) listing->image[below((uint32_t)lent->image_bytes + 2)] = (uint8_t)any();
+    }
+}
+
+static struct area table_area, tree_area, image_area, items_area;
+
+static void compare_listing(struct listing *listing, int too_long) {
+    static uint32_t wanted[MOST_LIST_WORDS], marked[MOST_LIST_WORDS];
+    struct lent lent = listing->lent;
+    size_t room = lent.room;
+    for (size_t at = 0; at < room; at++) wanted[at] = marked[at] = MARK;
+    lent.table = (const uint32_t *)(const void *)lend(table_area, listing->table, 4 * lent.table_words, 0);
+    lent.tree = (const uint32_t *)(const void *)lend(tree_area, listing->tree, 4 * lent.tree_words, 0);
+    uint32_t *items = (uint32_t *)(void *)lend(items_area, marked, 4 * room, 0);
+    lent.image = lend(image_area, listing->image, lent.image_bytes, below(4) == 0);
+    if (too_long) {
+        lent.image_bytes = MOST_IMAGE_BYTES + 1 + below(4);
+        lent.image = image_area.guard - lent.image_bytes;
+    }
+    enum check stopped_by;
+    uint64_t expected = reference_list(lent, wanted, NONE, &stopped_by);
+    uint64_t seen = kilnumber_list(lent.table, lent.table_words, lent.tree, lent.tree_words, lent.image, lent.image_bytes, items, room);
+    if (seen != expected || memcmp(items, wanted, 4 * room) != 0) {
+        printf("fuzz: a listing (%zu table words, %zu tree words, %zu bytes, room %zu): expected %016llx, seen %016llx%s\n",
+               lent.table_words, lent.tree_words, lent.image_bytes, room, (unsigned long long)expected, (unsigned long long)seen,
+               seen == expected ? ", other items" : "");
+        exit(1);
+    }
+    require_same(lent.table, listing->table, 4 * lent.table_words);
+    require_same(lent.tree, listing->tree, 4 * lent.tree_words);
+    if (!too_long) require_same(lent.image, listing->image, lent.image_bytes);
+    listings++;
+    by_list_number[expected >> 32]++;
+    by_check[stopped_by]++;
+    /* What is altered further of a table at fault is mostly at the same fault. */
+    int good_table = expected >> 32 == 0 || expected >> 32 >= 14;
+    if (!too_long && good_table && is_new(stopped_by, (uint32_t)expected, (uint32_t)lent.room)) keep_listing(listing);
+}
+
+static void fuzz_listings(uint64_t count) {
+    static struct listing listing;
+    table_area = make_area(4 * MOST_LIST_WORDS);
+    tree_area = make_area(4 * MOST_LIST_WORDS);
+    image_area = make_area(MOST_IMAGE_BYTES + 8);
+    items_area = make_area(4 * MOST_LIST_WORDS);
+    while (listings < count) {
+        listing = *lists[below((uint32_t)list_count)];
+        for (uint32_t turn = below(4); turn > 0; turn--) alter_listing(&listing);
+        compare_listing(&listing, below(LONG_OFTEN) == 0);
+    }
+}
+
+/* ------------------------------------------------------------------------- files */
+
+static uint32_t *read_words(const char *name, size_t *count) {
+    FILE *file = fopen(name, "rb");
+    if (file == NULL || fseek(file, 0, SEEK_END) != 0) stop(name);
+    size_t length = (size_t)ftell(file);
+    rewind(file);
+    uint8_t *bytes = malloc(length + 4);
+    uint32_t *words = malloc(length + 4);
+    if (length < 4 || bytes == NULL || words == NULL || fread(bytes, 1, length, file) != length) stop(name);
+    *count = length / 4;
+    for (size_t at = 0; at < *count; at++) words[at] = word_at(bytes, at);
+    free(bytes);
+    fclose(file);
+    return words;
+}
+
+static void read_trees(const char *name) {
+    static uint8_t bytes[MOST_TREE_BYTES];
+    size_t count, at = 1;
+    uint32_t *words = read_words(name, &count);
+    for (uint32_t turn = 0; turn < words[0] && at < count; turn++, at += 1 + words[at]) {
+        if (4 * words[at] > MOST_TREE_BYTES) continue;
+        for (size_t word = 0; word < words[at]; word++) put_word(bytes + 4 * word, words[at + 1 + word]);
+        keep(bytes, 4 * words[at]);
+    }
+    if (at != count || kept_count < 100) stop("the file of trees is not whole");
+    free(words);
+}
+
+static void read_lists(const char *name) {
+    static struct listing listing;
+    size_t count, at = 1;
+    uint32_t *words = read_words(name, &count);
+    lists = calloc(MOST_KEPT, sizeof *lists);
+    if (lists == NULL) stop("no memory");
+    for (uint32_t turn = 0; turn < words[0] && at < count; turn++) {
+        uint32_t sizes[3];
+        for (int part = 0; part < 3; part++, at += 1 + sizes[part - 1]) {
+            sizes[part] = words[at];
+            if (sizes[part] > (part == 2 ? 32 : MOST_LIST_WORDS)) stop("a list is too large");
+            for (uint32_t word = 0; word < sizes[part]; word++) {
+                if (part == 2) put_word(listing.image + 4 * word, words[at + 1 + word]);
+                else (part == 0 ? listing.table : listing.tree)[word] = words[at + 1 + word];
+            }
+        }
+        struct lent lent = {NULL, NULL, NULL, sizes[0], sizes[1], 4 * sizes[2], 64};
+        listing.lent = lent;
+        keep_listing(&listing);
+    }
+    if (at != count || list_count == 0) stop("the file of lists is not whole");
+    free(words);
+}
+
+static double seconds(void) {
+    struct timespec now;
+    clock_gettime(CLOCK_MONOTONIC, &now);
+    return (double)now.tv_sec + 1e-9 * (double)now.tv_nsec;
+}
+
+/* A fuzz that no longer comes to a check says nothing of it. */
+static void require_each(uint64_t least) {
+    static const char *const names[] = {"finished",
+#define NAME(check) #check,
+        WALK_CHECKS(NAME) "", LIST_CHECKS(NAME) "ends early"};
+#undef NAME
+    for (int check = NONE; check <= LIST_END; check++)
+        if (check != WALK_END && by_check[check] < least) {
+            printf("fuzz: only %llu inputs came to %s\n", (unsigned long long)by_check[check], names[check]);
+            exit(1);
+        }
+}
+
+int main(int arguments, char **argument) {
+    if (arguments < 5) stop("usage: fuzz trees lists walks listings");
+    wrong = arguments > 5 ? (unsigned)atoi(argument[5]) : 0;
+    if (wrong >= LAST_WRONG) return 3;                       /* the end of the row */
+    if (wrong == WALK_END || wrong == LIST_END) return 4;    /* no way to be wrong */
+    read_trees(argument[1]);
+    read_lists(argument[2]);
+    size_t given = kept_count, given_lists = list_count;
+    double before = seconds();
+    fuzz_walks(strtoull(argument[3], NULL, 10));
+    double between = seconds();
+    fuzz_listings(strtoull(argument[4], NULL, 10));
+    double after = seconds();
+    if (arguments < 6) require_each(10);
+    printf("fuzz: walks finished: %llu, number 7: %llu, 8: %llu, 9: %llu; listings whole: %llu, number 1 to 4: %llu, 14: %llu, 15: %llu, "
+           "16: %llu, 17: %llu\n", (unsigned long long)by_number[0], (unsigned long long)by_number[7], (unsigned long long)by_number[8],
+           (unsigned long long)by_number[9], (unsigned long long)by_list_number[0],
+           (unsigned long long)(by_list_number[1] + by_list_number[2] + by_list_number[3] + by_list_number[4]),
+           (unsigned long long)by_list_number[14], (unsigned long long)by_list_number[15], (unsigned long long)by_list_number[16],
+           (unsigned long long)by_list_number[17]);
+    printf("fuzz good: %llu walks in %.1f s, %llu listings in %.1f s; differences 0, faults 0; kept %zu trees over %zu given, %zu listings over %zu\n",
+           (unsigned long long)walks, between - before, (unsigned long long)listings, after - between, kept_count - given, given,
+           list_count - given_lists, given_lists);
+    return 0;
+}

@@ -1,0 +1,395 @@
+/*
+ * The walk and the listing of document 01, written from that paper alone, for fuzz.c. Sentences in quotes are the paper's.
+ *
+ * Each check has a name, and a check is left out where its name is `without`: so the same text is the reference (NONE) and a row of
+ * wrong ones, and the checks that a walk came by say how far an input got.
+ */
+
+#ifndef REFERENCE_H
+#define REFERENCE_H
+
+#include <stddef.h>
+#include <stdint.h>
+
+#define WALK_CHECKS(X)                                                                                                       \
+    X(LENGTH_OF_FOUR) X(HEADER_KIND) X(HEADER_SPARE) X(WIDTH_LEAST) X(WIDTH_MOST) X(NODES_LEAST) X(NODES_MOST) X(WORD_HIGH)    \
+    X(NODE_KIND) X(TEST_SPARE) X(TEST_BIT) X(ONE_SIDE_LEAST) X(ONE_SIDE_MOST) X(ENTRY_SPARE) X(NOTHING_SPARE)
+#define LIST_CHECKS(X)                                                                                                       \
+    X(TABLE_FIRST) X(TABLE_KIND) X(TABLE_COUNT) X(TABLE_LENGTH) X(PATTERN_OWN) X(PATTERN_VALUE) X(FIELD_PLACE) X(FIELD_OVERLAP) \
+    X(COVER) X(LEFT_OVER) X(IMAGE_WIDTH) X(IMAGE_LENGTH) X(IMAGE_ODD) X(IMAGE_LONG) X(TREE_WIDTH) X(TREE_DAMAGED)             \
+    X(BIT_TWICE) X(ONE_SIDE_BEGINS) X(ALL_USED) X(NAMED_STEP) X(NOTHING_STEP) X(NO_ROOM) X(LAST_HALF)
+
+enum check {
+    NONE,
+#define NAME(check) check,
+    WALK_CHECKS(NAME) WALK_END,
+    LIST_CHECKS(NAME) LIST_END
+#undef NAME
+};
+
+#define MOST_STEPS 200000u /* only a wrong walk, which may go round in circles, comes to it */
+#define MOST_TABLE_WORDS 16384u
+#define MOST_IMAGE_BYTES 2097152u
+
+static uint32_t word_at(const uint8_t *bytes, size_t index) {
+    const uint8_t *at = bytes + 4 * index;
+    return (uint32_t)at[0] | (uint32_t)at[1] << 8 | (uint32_t)at[2] << 16 | (uint32_t)at[3] << 24;
+}
+
+/* ------------------------------------------------------------------------- the walk */
+
+struct walked {
+    uint32_t number, place, entry, nothing, tests;
+    enum check stopped_by; /* NONE if it finished */
+};
+
+static inline struct walked walk_stopped(enum check by, uint32_t number, uint32_t place) {
+    struct walked walked = {number, place, 0, 0, 0, by};
+    return walked;
+}
+
+/* "tree header: length 0, kind, spare bit, width not 1-32, no nodes, more nodes than words after it" */
+static inline enum check header_fault(uint32_t header, size_t words, enum check without) {
+    uint32_t width = header >> 16 & 63, nodes = header & 0xffff;
+    if (header >> 28 != 7 && without != HEADER_KIND) return HEADER_KIND;
+    if ((header >> 22 & 63) != 0 && without != HEADER_SPARE) return HEADER_SPARE;
+    if (width < 1 && without != WIDTH_LEAST) return WIDTH_LEAST;
+    if (width > 32 && without != WIDTH_MOST) return WIDTH_MOST;
+    if (nodes == 0 && without != NODES_LEAST) return NODES_LEAST;
+    if (nodes > words - 1 && without != NODES_MOST) return NODES_MOST;
+    return NONE;
+}
+
+/* "A path node is damaged if its kind is not 8-10, a spare bit is set, the tested bit is at or above the width, or the one side's
+ * index is below its own + 2 or above the number of nodes." */
+static inline enum check node_fault(uint32_t node, uint32_t index, uint32_t width, uint32_t nodes, enum check without) {
+    switch (node >> 28) {
+    case 8:
+        if ((node >> 16 & 0x7f) != 0 && without != TEST_SPARE) return TEST_SPARE;
+        if ((node >> 23 & 31) >= width && without != TEST_BIT) return TEST_BIT;
+        if ((node & 0xffff) < index + 2 && without != ONE_SIDE_LEAST) return ONE_SIDE_LEAST;
+        return (node & 0xffff) > nodes && without != ONE_SIDE_MOST ? ONE_SIDE_MOST : NONE;
+    case 9:
+        return (node & 0x0fffff00) != 0 && without != ENTRY_SPARE ? ENTRY_SPARE : NONE;
+    case 10:
+        return (node & 0x0fffffff) != 0 && without != NOTHING_SPARE ? NOTHING_SPARE : NONE;
+    default:
+        return without != NODE_KIND ? NODE_KIND : NONE; /* without: taken for nothing */
+    }
+}
+
+static inline struct walked reference_walk(const uint8_t *tree, size_t length, uint32_t word, enum check without) {
+    /* "a length not a multiple of four gives 8" */
+    if (length < 4 || (length % 4 != 0 && without != LENGTH_OF_FOUR)) return walk_stopped(LENGTH_OF_FOUR, 8, 0);
+    uint32_t width = word_at(tree, 0) >> 16 & 63, nodes = word_at(tree, 0) & 0xffff, index = 1;
+    enum check fault = header_fault(word_at(tree, 0), length / 4, without);
+    if (fault != NONE) return walk_stopped(fault, 8, 0);
+    if (width < 32 && word >> width != 0 && without != WORD_HIGH) return walk_stopped(WORD_HIGH, 7, 0);
+    struct walked walked = {0, 0, 0, 0, 0, NONE};
+    for (uint32_t step = 0; step < MOST_STEPS && index < length / 4; step++) {
+        uint32_t node = word_at(tree, index);
+        fault = node_fault(node, index, width, nodes, without);
+        if (fault != NONE) return walk_stopped(fault, 9, index);
+        if (node >> 28 != 8) {
+            walked.nothing = node >> 28 != 9;
+            walked.entry = walked.nothing ? 0 : node & 0xff;
+            return walked;
+        }
+        walked.tests++;
+        index = (word >> (node >> 23 & 31) & 1) == 0 ? index + 1 : node & 0xffff;
+    }
+    return walk_stopped(WALK_END, 255, 0); /* the right walk never comes here */
+}
+
+/* "entry in 7-0, bit 8 for nothing, count in 31-16, number in 39-32 (0 if none), place in 63-48, the rest zero" */
+static inline uint64_t packed(struct walked walked) {
+    return (uint64_t)walked.entry | (uint64_t)walked.nothing << 8 | (uint64_t)walked.tests << 16 | (uint64_t)walked.number << 32 |
+           (uint64_t)walked.place << 48;
+}
+
+/* ------------------------------------------------------------------------- reading a table: 1 to 4 */
+
+struct table {
+    const uint32_t *words;
+    size_t count, next; /* the word that is read next */
+    uint32_t width, entries, number;
+    size_t place, places[256];
+    enum check stopped_by, without;
+};
+
+static int table_fault(struct table *table, enum check by, uint32_t number, size_t place) {
+    if (table->without == by) return 0;
+    table->stopped_by = by;
+    table->number = number;
+    table->place = place;
+    return 1;
+}
+
+/* "table ends early": no wrong reader leaves that out, because it would read past the end. */
+static int ends_early(struct table *table) {
+    if (table->next < table->count) return 0;
+    table->stopped_by = LIST_END;
+    table->number = 2;
+    table->place = table->count;
+    return 1;
+}
+
+static uint32_t span(uint32_t lowest, uint32_t size) { return (uint32_t)((((uint64_t)1 << size) - 1) << lowest); }
+
+static int read_pattern(struct table *table, uint32_t own) {
+    size_t place = table->next;
+    for (int turn = 0; turn < 2; turn++, table->next++)
+        if (ends_early(table)) return 0;
+    uint32_t mask = table->words[place], value = table->words[place + 1];
+    if ((mask & ~own) != 0 && table_fault(table, PATTERN_OWN, 3, place)) return 0;
+    if ((value & ~mask) != 0 && table_fault(table, PATTERN_VALUE, 3, place)) return 0;
+    return 1;
+}
+
+static int read_field(struct table *table, uint32_t own, uint32_t *covered) {
+    if (ends_early(table)) return 0;
+    size_t place = table->next++;
+    uint32_t head = table->words[place], lowest = head >> 8 & 0xff, size = head & 0xff;
+    if (head >> 16 != 0x3000 && table_fault(table, TABLE_KIND, 2, place)) return 0;
+    if (size == 0 || lowest + size > 32 || (span(lowest, size) & ~own) != 0) {
+        if (table_fault(table, FIELD_PLACE, 4, place)) return 0;
+        return 1;
+    }
+    if ((span(lowest, size) & *covered) != 0 && table_fault(table, FIELD_OVERLAP, 4, place)) return 0;
+    *covered |= span(lowest, size);
+    return 1;
+}
+
+static int read_condition(struct table *table, uint32_t own) {
+    if (ends_early(table)) return 0;
+    size_t place = table->next++;
+    uint32_t head = table->words[place];
+    if (head >> 4 != 0x4000000 && table_fault(table, TABLE_KIND, 2, place)) return 0;
+    if ((head & 15) > 8 && table_fault(table, TABLE_COUNT, 2, place)) return 0;
+    if (!read_pattern(table, own)) return 0;
+    for (uint32_t turn = 0; turn < (head & 15); turn++) {
+        if (ends_early(table)) return 0;
+        place = table->next++;
+        if (table->words[place] != 0x50000000 && table_fault(table, TABLE_KIND, 2, place)) return 0;
+        if (!read_pattern(table, own)) return 0;
+    }
+    return 1;
+}
+
+static int read_entry(struct table *table) {
+    if (ends_early(table)) return 0;
+    size_t place = table->next++;
+    uint32_t head = table->words[place], length = head >> 8 & 0xff, fields = head >> 4 & 15, conditions = head & 15;
+    if (head >> 28 != 2 && table_fault(table, TABLE_KIND, 2, place)) return 0;
+    if ((fields > 8 || conditions > 8) && table_fault(table, TABLE_COUNT, 2, place)) return 0;
+    if (length < 1 || length > table->width) {
+        if (table_fault(table, TABLE_LENGTH, 2, place)) return 0;
+        length = table->width;
+    }
+    uint32_t own = span(table->width - length, length);
+    if (!read_pattern(table, own)) return 0;
+    uint32_t covered = table->words[place + 1];
+    for (uint32_t turn = 0; turn < fields; turn++)
+        if (!read_field(table, own, &covered)) return 0;
+    if (covered != own && table_fault(table, COVER, 4, place)) return 0;
+    for (uint32_t turn = 0; turn < conditions; turn++)
+        if (!read_condition(table, own)) return 0;
+    return 1;
+}
+
+static int read_table(struct table *table) {
+    uint32_t first = table->count == 0 ? 0 : table->words[0];
+    table->entries = first >> 16 & 0xfff;
+    table->width = first & 0xff;
+    table->next = 1;
+    /* No wrong reader leaves these three out: they keep the arrays whole. */
+    if (table->count == 0 || table->count > MOST_TABLE_WORDS || table->entries > 256 || table->width < 1 || table->width > 32) {
+        table->number = 1;
+        return 0;
+    }
+    if ((first >> 28 != 1 || (first >> 8 & 0xff) != 0) && table_fault(table, TABLE_FIRST, 1, 0)) return 0;
+    for (uint32_t entry = 0; entry < table->entries; entry++) {
+        table->places[entry] = table->next;
+        if (!read_entry(table)) return 0;
+    }
+    return table->next == table->count || !table_fault(table, LEFT_OVER, 2, table->next);
+}
+
+static const uint32_t *entry_at(const struct table *table, uint32_t entry) { return table->words + table->places[entry]; }
+
+/* ------------------------------------------------------------------------- cells; a word is a cell with all bits fixed */
+
+struct cell {
+    uint32_t fixed, bits;
+};
+
+enum status { DEAD, SURE, OPEN };
+
+static int implies(struct cell cell, const uint32_t *pattern) {
+    return (pattern[0] & ~cell.fixed) == 0 && (cell.bits & pattern[0]) == pattern[1];
+}
+
+static int clashes(struct cell cell, const uint32_t *pattern) { return ((cell.bits ^ pattern[1]) & pattern[0] & cell.fixed) != 0; }
+
+/* "A condition holds in a cell that implies its matching pattern and clashes with all its unmatching ones; it fails where the cell
+ * clashes with the matching pattern or implies an unmatching one; else it is open." DEAD for holds, SURE for fails. */
+static enum status condition_status(struct cell cell, const uint32_t *condition) {
+    int all_clash = 1, one_implied = 0;
+    for (uint32_t turn = 0; turn < (condition[0] & 15); turn++) {
+        all_clash &= clashes(cell, condition + 4 + 3 * turn);
+        one_implied |= implies(cell, condition + 4 + 3 * turn);
+    }
+    if (implies(cell, condition + 1) && all_clash) return DEAD;
+    return clashes(cell, condition + 1) || one_implied ? SURE : OPEN;
+}
+
+/* "An entry is dead if its opcode pattern clashes or a condition holds; sure if the pattern is implied and every condition fails;
+ * else open." */
+static enum status entry_status(struct cell cell, const uint32_t *entry) {
+    if (clashes(cell, entry + 1)) return DEAD;
+    enum status status = implies(cell, entry + 1) ? SURE : OPEN;
+    const uint32_t *condition = entry + 3 + (entry[0] >> 4 & 15);
+    for (uint32_t turn = 0; turn < (entry[0] & 15); turn++, condition += 3 + 3 * (condition[0] & 15)) {
+        enum status its = condition_status(cell, condition);
+        if (its == DEAD) return DEAD;
+        if (its == OPEN) status = OPEN;
+    }
+    return status;
+}
+
+static int more_specific(const uint32_t *e, const uint32_t *f) {
+    return (f[1] & ~e[1]) == 0 && e[1] != f[1] && ((e[2] ^ f[2]) & f[1]) == 0;
+}
+
+#define NO_ENTRY 256u
+#define NEITHER 257u
+
+/* The entry of step 1 in the cell, NO_ENTRY for step 2, or NEITHER. For a word: the selected entry. */
+static uint32_t first_step(const struct table *table, struct cell cell) {
+    enum status status[256];
+    uint32_t live = 0;
+    for (uint32_t entry = 0; entry < table->entries; entry++) {
+        status[entry] = entry_status(cell, entry_at(table, entry));
+        live += status[entry] != DEAD;
+    }
+    for (uint32_t entry = 0; entry < table->entries; entry++) {
+        uint32_t beaten = 0;
+        for (uint32_t other = 0; other < table->entries; other++)
+            beaten += other != entry && status[other] != DEAD && more_specific(entry_at(table, entry), entry_at(table, other));
+        if (status[entry] == SURE && beaten == live - 1) return entry;
+    }
+    return live == 0 ? NO_ENTRY : NEITHER;
+}
+
+/* ------------------------------------------------------------------------- the checker */
+
+struct checking {
+    const struct table *table;
+    const uint32_t *tree;
+    uint32_t nodes, steps;
+    enum check without, stopped_by;
+};
+
+static uint32_t wrong_part(struct checking *checking, enum check by) {
+    checking->stopped_by = by;
+    return 0;
+}
+
+/* The index after the subtree that begins at `at`, 0 if a part is wrong. */
+static uint32_t check_from(struct checking *checking, struct cell cell, uint32_t at) {
+    enum check without = checking->without;
+    if (at > checking->nodes || checking->steps++ > MOST_STEPS) return wrong_part(checking, TREE_DAMAGED);
+    uint32_t node = checking->tree[at], bit = node >> 23 & 31, width = checking->table->width;
+    /* A wrong checker may let spare bits through, but must stay inside the tree. */
+    if (node_fault(node, at, width, checking->nodes, without == TREE_DAMAGED ? ENTRY_SPARE : NONE) != NONE)
+        return wrong_part(checking, TREE_DAMAGED);
+    if (node >> 28 != 8) {
+        uint32_t wanted = node >> 28 == 9 ? node & 0xff : NO_ENTRY;
+        enum check part = node >> 28 == 9 ? NAMED_STEP : NOTHING_STEP;
+        if (first_step(checking->table, cell) != wanted && without != part) return wrong_part(checking, part);
+        return at + 1;
+    }
+    if ((cell.fixed >> bit & 1) != 0 && without != BIT_TWICE) return wrong_part(checking, BIT_TWICE);
+    struct cell zero = {cell.fixed | 1u << bit, cell.bits}, one = {cell.fixed | 1u << bit, cell.bits | 1u << bit};
+    uint32_t end = check_from(checking, zero, at + 1);
+    if (end == 0) return 0;
+    if ((node & 0xffff) != end && without != ONE_SIDE_BEGINS) return wrong_part(checking, ONE_SIDE_BEGINS);
+    return check_from(checking, one, node & 0xffff);
+}
+
+static int accepts(struct table *table, const uint32_t *tree, size_t tree_words, enum check without) {
+    struct checking checking = {table, tree, 0, 0, without, NONE};
+    table->stopped_by = TREE_WIDTH;
+    if (tree_words == 0 || header_fault(tree[0], tree_words, NONE) != NONE) return 0;
+    if ((tree[0] >> 16 & 63) != table->width && without != TREE_WIDTH) return 0;
+    checking.nodes = tree[0] & 0xffff;
+    struct cell none = {0, 0};
+    uint32_t end = check_from(&checking, none, 1);
+    table->stopped_by = checking.stopped_by != NONE ? checking.stopped_by : ALL_USED;
+    return end != 0 && (end == checking.nodes + 1 || without == ALL_USED);
+}
+
+/* ------------------------------------------------------------------------- the listing */
+
+struct lent {
+    const uint32_t *table, *tree;
+    const uint8_t *image;
+    size_t table_words, tree_words, image_bytes, room;
+};
+
+static int no_image_table(const struct table *table, enum check without) {
+    if (table->width != 32 && without != IMAGE_WIDTH) return 1;
+    for (uint32_t entry = 0; entry < table->entries; entry++) {
+        uint32_t length = entry_at(table, entry)[0] >> 8 & 0xff;
+        if (length != 16 && length != 32 && without != IMAGE_LENGTH) return 1;
+    }
+    return 0;
+}
+
+static uint64_t refused_list(uint32_t number, size_t place) { return (uint64_t)number << 32 | (uint64_t)place; }
+
+/* "listing 15, 16, 14, 17". What a word selects is looked up in the table; the tree is only checked. */
+static uint64_t reference_list(struct lent lent, uint32_t *items, enum check without, enum check *stopped_by) {
+    struct table table = {lent.table, lent.table_words, 0, 0, 0, 0, 0, {0}, NONE, without};
+    int good = read_table(&table);
+    *stopped_by = table.stopped_by;
+    if (!good) return refused_list(table.number, table.place);
+    *stopped_by = table.width != 32 ? IMAGE_WIDTH : IMAGE_LENGTH;
+    if (no_image_table(&table, without)) return refused_list(15, 0);
+    *stopped_by = lent.image_bytes % 2 != 0 ? IMAGE_ODD : IMAGE_LONG;
+    if (lent.image_bytes % 2 != 0 && without != IMAGE_ODD) return refused_list(16, 0);
+    if (lent.image_bytes > MOST_IMAGE_BYTES && without != IMAGE_LONG) return refused_list(16, 0);
+    good = accepts(&table, lent.tree, lent.tree_words, without);
+    *stopped_by = table.stopped_by;
+    if (!good) return refused_list(14, 0);
+    *stopped_by = NONE;
+    size_t halves = lent.image_bytes / 2, address = 0, count = 0;
+    while (address < halves) {
+        if (count == lent.room) {
+            *stopped_by = NO_ROOM;
+            return without == NO_ROOM ? refused_list(0, count) : refused_list(17, address);
+        }
+        const uint8_t *at = lent.image + 2 * address;
+        uint32_t upper = (uint32_t)at[0] | (uint32_t)at[1] << 8;
+        /* "a missing lower half reads as zero" */
+        uint32_t lower = address + 1 < halves ? (uint32_t)at[2] | (uint32_t)at[3] << 8 : 0;
+        struct cell cell = {0xffffffff, upper << 16 | lower};
+        uint32_t entry = first_step(&table, cell);
+        if (entry >= NO_ENTRY) {
+            items[count++] = 13u << 28 | (uint32_t)address++;
+            continue;
+        }
+        size_t next = address + (entry_at(&table, entry)[0] >> 8 & 0xff) / 16;
+        if (next > halves && without != LAST_HALF) {
+            *stopped_by = LAST_HALF;
+            items[count++] = 14u << 28 | (uint32_t)address;
+            next = halves;
+        } else {
+            items[count++] = 12u << 28 | entry << 20 | (uint32_t)address;
+        }
+        address = next;
+    }
+    return count;
+}
+
+#endif
