@@ -11,7 +11,6 @@ use tree::Checked;
 use tree::Generated;
 use walker::Walked;
 ghost use Prim.Native.Nat.{_≤_};
-ghost use lib.ListN.{length};
 
 mod others;
 mod tables;
