@@ -29,9 +29,9 @@ from second.tree import nodes_once
 
 SEED = 9
 MANUALS = {"avr": manuals.avr, "riscv": manuals.riscv, "a32": manuals.a32, "buoy": manuals.buoy}
-RANDOM_WORDS = 6000
-WORDS_AT_LEAST_EACH = 30        # words made for each entry, and as many neighbours
-MADE_WORDS = 8000
+RANDOM_WORDS = 5400
+WORDS_AT_LEAST_EACH = 30        # words made of each entry, and as many neighbours
+MADE_WORDS = 7500
 ALTERED = 15                    # altered sets of each, which the manual's decoder must tell from the real one
 WORDS_FOR_ALTERED = 40
 
