@@ -225,48 +225,22 @@ fn report(name: &[u8], source: Source, table: &[u32], count: u32) {
     say(b"\n");
 }
 
-fn report_01() {
+// The lines of all tables.
+fn report_all() {
     report(b"01 printed", Source::Printed, &tables::PRINTED, 4);
     report(b"01 0-- --0", Source::TwoZeros, &tables::TWO_ZEROS, 8);
     report(b"01 0-- --0 0-0", Source::WithThird, &tables::WITH_THIRD, 8);
-    report(
-        b"01 0-- -00",
-        Source::MoreMaskBits,
-        &tables::MORE_MASK_BITS,
-        8,
-    );
-}
-
-fn report_000() {
+    report(b"01 0-- -00", Source::MoreBits, &tables::MORE_BITS, 8);
     report(b"000 figure 1", Source::Figure1, &tables::FIGURE_1, 16);
     report(b"000 (1)", Source::Example1, &tables::EXAMPLE_1, 8);
     report(b"000 (4)", Source::Example4, &tables::EXAMPLE_4, 16);
     report(b"000 (5)", Source::Example5, &tables::EXAMPLE_5, 8);
     report(b"000 (6)", Source::Example6, &tables::EXAMPLE_6, 16);
     report(b"000 (7)", Source::Example7, &tables::EXAMPLE_7, 16);
-}
-
-fn report_001() {
     report(b"001 table I", Source::Table1, &tables::TABLE_1, 256);
     report(b"001 table II", Source::Table2, &tables::TABLE_2, 256);
-}
-
-fn report_003() {
-    report(
-        b"003 figure 1 (a)",
-        Source::WellFormed,
-        &tables::WELL_FORMED,
-        32,
-    );
-    report(
-        b"003 figure 1 (b)",
-        Source::NotWellFormed,
-        &tables::NOT_WELL_FORMED,
-        32,
-    );
-}
-
-fn report_004() {
+    report(b"003 figure 1 (a)", Source::Disjoint, &tables::DISJOINT, 32);
+    report(b"003 figure 1 (b)", Source::Overlap, &tables::OVERLAP, 32);
     report(b"004 table 2", Source::Mixed, &tables::MIXED, 196608);
 }
 
@@ -402,7 +376,7 @@ fn run_third() {
     say(b"its word 0: ");
     say_decoding(&tables::WITH_THIRD, 0);
     say(b"word 0 with 0-- and -00: ");
-    say_decoding(&tables::MORE_MASK_BITS, 0);
+    say_decoding(&tables::MORE_BITS, 0);
 }
 
 // A tree's words, as mktree prints them.
@@ -431,9 +405,5 @@ fn main() {
     run_third();
     run_many();
     run_printed();
-    report_01();
-    report_000();
-    report_001();
-    report_003();
-    report_004();
+    report_all();
 }

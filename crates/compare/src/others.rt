@@ -10,7 +10,7 @@ pub enum Source {
     Printed,
     TwoZeros,
     WithThird,
-    MoreMaskBits,
+    MoreBits,
     Figure1,
     Example1,
     Example4,
@@ -19,8 +19,8 @@ pub enum Source {
     Example7,
     Table1,
     Table2,
-    WellFormed,
-    NotWellFormed,
+    Disjoint,
+    Overlap,
     Mixed,
 }
 
@@ -52,7 +52,7 @@ fn with_third(w: u32) -> u32 {
 }
 
 // Document 01: "with 0-- and -00 word 0 is ambiguous".
-fn more_mask_bits(w: u32) -> u32 {
+fn more_bits(w: u32) -> u32 {
     either((w >> 2) & 1 == 0, w & 3 == 0)
 }
 
@@ -169,7 +169,7 @@ fn table_2(w: u32) -> u32 {
 }
 
 // 003, figure 1 (a).
-fn well_formed(w: u32) -> u32 {
+fn disjoint(w: u32) -> u32 {
     if (w >> 4) & 1 == 1 {
         return 3;
     }
@@ -180,7 +180,7 @@ fn well_formed(w: u32) -> u32 {
 }
 
 // 003, figure 1 (b): "bit string 11000 matches both the third and the fourth entry".
-fn not_well_formed(w: u32) -> u32 {
+fn overlap(w: u32) -> u32 {
     match (w >> 3) & 3 {
         3 => AMBIGUOUS,
         2 => 3,
@@ -224,7 +224,7 @@ pub fn select(source: Source, w: u32) -> u32 {
         Source::Printed => printed(w),
         Source::TwoZeros => two_zeros(w),
         Source::WithThird => with_third(w),
-        Source::MoreMaskBits => more_mask_bits(w),
+        Source::MoreBits => more_bits(w),
         Source::Figure1 => figure_1(w),
         Source::Example1 => example_1(w),
         Source::Example4 => example_4(w),
@@ -233,8 +233,8 @@ pub fn select(source: Source, w: u32) -> u32 {
         Source::Example7 => example_7(w),
         Source::Table1 => table_1(w),
         Source::Table2 => table_2(w),
-        Source::WellFormed => well_formed(w),
-        Source::NotWellFormed => not_well_formed(w),
+        Source::Disjoint => disjoint(w),
+        Source::Overlap => overlap(w),
         Source::Mixed => mixed(w),
     }
 }

@@ -41,7 +41,7 @@ pub const WITH_THIRD: [u32; 13] = [
 ];
 
 // Document 01, 'Mistakes to exclude': "more mask bits counted as more specific".
-pub const MORE_MASK_BITS: [u32; 9] = [
+pub const MORE_BITS: [u32; 9] = [
     0x10020003,
     // 0--
     0x20000310,
@@ -283,7 +283,7 @@ pub const TABLE_2: [u32; 52] = [
 ];
 
 // 003, figure 1 (a). The probabilities, 0.25 each, have no place in document 01.
-pub const WELL_FORMED: [u32; 17] = [
+pub const DISJOINT: [u32; 17] = [
     0x10040005,
     // l1 000--
     0x20010510,
@@ -308,7 +308,7 @@ pub const WELL_FORMED: [u32; 17] = [
 ];
 
 // 003, figure 1 (b). The paper forbids it; document 01 finds its words ambiguous.
-pub const NOT_WELL_FORMED: [u32; 18] = [
+pub const OVERLAP: [u32; 18] = [
     0x10040005,
     // l1 001--
     0x20010510,
