@@ -1,10 +1,13 @@
 """Times mktree and the same algorithm in C (generate.c) as processes, on the tables of tests/hardest.py and some more.
 
-Usage: generate.py mktree program directory [compare]. First the two must print the same bytes for each table; with `compare` that
-is all. From each time that of a table without entries is subtracted: starting a process and printing two lines.
+Usage: generate.py mktree program directory [compare | instructions]. First the two must print the same bytes for each table; with
+`compare` that is all. From each time that of a table without entries is subtracted: starting a process and printing two lines.
+With `instructions` valgrind counts them instead, which no load of the machine changes.
 """
 
 import random
+import re
+import subprocess
 import sys
 from pathlib import Path
 from statistics import median
@@ -81,12 +84,29 @@ def measure(program, other, files, empty):
     print(f"largest ratio, mktree to C: {worst:.2f}; load after: {load()}")
 
 
+def instructions_of(program, file):
+    command = ["valgrind", "--tool=cachegrind", "--cache-sim=no", "--cachegrind-out-file=/dev/null", program]
+    with open(file, "rb") as source:
+        done = subprocess.run(command, stdin=source, stdout=subprocess.DEVNULL, stderr=subprocess.PIPE, text=True, check=True)
+    return int(re.search(r"I +refs: +([0-9,]+)", done.stderr).group(1).replace(",", ""))
+
+
+def count_instructions(program, other, files, empty):
+    starts = [instructions_of(one, empty) for one in (program, other)]
+    print(f"millions of instructions, less {starts[0] / 1e6:.2f} and {starts[1] / 1e6:.2f} for a table without entries")
+    for name, file in files:
+        proved, in_c = (instructions_of(one, file) - start for one, start in zip((program, other), starts))
+        print(f"{name:36} mktree {proved / 1e6:9.3f}   C {in_c / 1e6:9.3f}   ratio {proved / in_c:5.2f}", flush=True)
+
+
 def main():
     program, other, directory = sys.argv[1], sys.argv[2], Path(sys.argv[3])
     directory.mkdir(parents=True, exist_ok=True)
     files, empty = write_tables(directory)
     compare(program, other, files)
-    if sys.argv[4:] != ["compare"]:
+    if sys.argv[4:] == ["instructions"]:
+        count_instructions(program, other, files, empty)
+    elif sys.argv[4:] != ["compare"]:
         measure(program, other, files, empty)
 
 
