@@ -1,7 +1,7 @@
 """Compares the tables in data/ with the disassemblers of GNU binutils. Not part of the gate: a disassembler that isn't
 installed is skipped, with a line that says so.
 
-AVR: whole images, listed by probe; address, length and name of every item. RISC-V: the name of each word, or nothing, with
+AVR: whole images, listed by probe; address, length and name of every item: every halfword, and the code of avr-libc. RISC-V: the name of each word, or nothing, with
 the few exceptions of riscv_stricter. A32: the name of each word for which the table has one; the other way round isn't
 compared, because objdump names words whose "should be" bits are wrong, and instructions that data/ leaves out.
 
@@ -24,6 +24,8 @@ from second.tree import nodes_once, written
 
 SEED = 10
 AVR_HALVES = 60000
+AVR_LIBRARIES = [Path(f"/usr/lib/avr/lib/{core}/libc.a") for core in ("avr4", "avr5", "avr6")]
+AVR_PIECE = 100000
 NOTHING = "nothing"
 
 
@@ -102,8 +104,8 @@ def listed(path, one, image):
         yield 2 * (item & 0xFFFFF), len(pattern) // 8, name
 
 
-def compare_avr(path, rng, folder, one):
-    image = avr_image(rng, one)
+def same_items(path, folder, one, image):
+    """The names of an image's items, which are avr-objdump's in address, length and name."""
     file = folder / "avr.bin"
     file.write_bytes(image)
     # -z: runs of zeros (NOP) are printed too. avr:107 is the largest core.
@@ -115,9 +117,37 @@ def compare_avr(path, rng, folder, one):
             stop(f"AVR: the table has {ours}, avr-objdump {theirs}")
     if len(expected) != len(seen):
         stop(f"AVR: {len(expected)} items, avr-objdump {len(seen)}")
-    names = Counter(name for _, _, name in seen)
+    return Counter(name for _, _, name in seen)
+
+
+def compare_avr(path, rng, folder, one):
+    names = same_items(path, folder, one, avr_image(rng, one))
     probe.require_enough(names, {instruction.mnemonic: 1 for instruction in one.set.instructions} | {NOTHING: 1000})
-    return f"avr: {len(seen)} items"
+    return f"avr: {names.total()} items"
+
+
+def library_code(library, folder):
+    """The code of each object of a library, one after the other; NOPs after each, so that nothing is cut off."""
+    subprocess.run(["avr-ar", "x", str(library)], cwd=folder, check=True, timeout=120)
+    code = b""
+    for file in sorted(folder.glob("*.o")):
+        output_of("avr-objcopy", "-O", "binary", "-j", ".text*", str(file), str(folder / "code"))
+        code += (folder / "code").read_bytes() + b"\0\0\0\0"
+        file.unlink()
+    return code
+
+
+def compare_avr_libc(path, _, folder, one):
+    """Whole code of avr-libc, of an old core and of a large one, in pieces that probe's input holds."""
+    names = Counter()
+    for library in AVR_LIBRARIES:
+        if not library.is_file():
+            return f"avr-libc: skipped, no {library}"
+        code = library_code(library, folder)
+        for start in range(0, len(code), AVR_PIECE):
+            names += same_items(path, folder, one, code[start:start + AVR_PIECE] + b"\0\0\0\0")
+    probe.require_enough(names, {"RET": 100, "LDI": 100, "CALL": 50})
+    return f"avr-libc: {names.total()} items, {names[NOTHING]} of nothing"
 
 
 # ---------------------------------------------------------------------------- RISC-V
@@ -234,6 +264,7 @@ def compare_a32(path, rng, folder, one):
 # ---------------------------------------------------------------------------- all of it
 
 COMPARISONS = (("avr", compare_avr, ("avr-objdump",)),
+               ("avr", compare_avr_libc, ("avr-objdump", "avr-ar", "avr-objcopy")),
                ("riscv", compare_riscv, ("riscv64-linux-gnu-as", "riscv64-linux-gnu-objdump")),
                ("a32", compare_a32, ("arm-none-eabi-objdump",)))
 
