@@ -24,17 +24,18 @@ WIDTH = 32
 NO_ENTRIES = [0x10000020]
 
 
-def open_plan(rng, entries, conditions, depth):
-    """All but two entries match every word; they share the conditions, each with eight unmatching patterns and open in every
-    cell. The last two decide after `depth` tests: 2^(depth+1) - 1 nodes."""
+def alike_plan(rng, entries, conditions, depth):
+    """All but two entries match every word, none more specific than another; they share the conditions, each with eight
+    unmatching patterns and open in every cell. The last two decide after `depth` tests: 2^(depth+1) - 1 nodes."""
     plain = [EntryPlan(0, WIDTH, 0, 0, [(0, WIDTH)]) for _ in range(entries - 2)]
     for turn in range(conditions):
         plain[turn % len(plain)].conditions.append(never_decided(rng, depth))
     return TablePlan(WIDTH, plain + [deciding_entry(rng, 0, depth), deciding_entry(rng, 1, depth)])
 
 
-def sure_plan(rng, entries, depth):
-    """tests/hardest.py's table of sure entries, with fewer of them: each sure entry is compared with the live ones."""
+def nested_plan(rng, entries, depth):
+    """tests/hardest.py's table of sure entries, with fewer of them: those of one half are more specific than those of the
+    other, so that each is compared with many."""
     plan = many_sure(rng, depth)
     plan.entries = plan.entries[:(entries - 4) // 2] + plan.entries[128:128 + (entries - 4) // 4] \
         + plan.entries[190:190 + (entries - 4) // 4] + plan.entries[-4:]
@@ -44,13 +45,13 @@ def sure_plan(rng, entries, depth):
 def generating_series(rng):
     """(name of the series, size, plan)"""
     for entries in (4, 8, 16, 32, 64, 128, 256):
-        yield "entries, open", entries, open_plan(rng, entries, 0, 10)
+        yield "entries, alike", entries, alike_plan(rng, entries, 0, 10)
     for entries in (20, 36, 68, 132, 252):
-        yield "entries, sure", entries, sure_plan(rng, entries, 10)
+        yield "entries, nested", entries, nested_plan(rng, entries, 10)
     for conditions in (0, 32, 64, 128, 256, 512):
-        yield "conditions", conditions, open_plan(rng, 66, conditions, 10)
+        yield "conditions", conditions, alike_plan(rng, 66, conditions, 10)
     for depth in (6, 7, 8, 9, 10, 11, 12, 13):
-        yield "nodes", 2 ** (depth + 1) - 1, open_plan(rng, 66, 128, depth)
+        yield "nodes", 2 ** (depth + 1) - 1, alike_plan(rng, 66, 128, depth)
 
 
 def nodes_printed(text):

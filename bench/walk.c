@@ -274,7 +274,7 @@ int main(int arguments, char **argument) {
     printf("equal: %zu walks; number 7: %zu, 8: %zu, 9: %zu\n", compared, with_number[7], with_number[8], with_number[9]);
     if (with_number[7] < 100 || with_number[8] < 100 || with_number[9] < 100) stop("too few refusals were compared");
 #ifndef STAND_IN
-    printf("ns a walk: %*s C: best, median, worst      proved: best, median, worst  best/best  ratios of turns: least, median, most\n", 15, "tests");
+    printf("ns a walk: tests; C: best, median, worst; proved: best, median, worst; ratio of best; of turns: least, median, most\n");
     double worst = 0;
     for (size_t at = 0; at < count; at++) {
         double ratio = measure(made[at]);

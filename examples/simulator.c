@@ -20,7 +20,7 @@
 
 #define ENTRIES 256 /* an entry's number has eight bits */
 
-enum { NO_TREE = 8, HIGH_WORD = 7, DAMAGED_NODE = 9 };
+enum { HIGH_WORD = 7, DAMAGED_NODE = 9 }; /* the third, 8, is about the tree's header */
 
 struct bytes {
     uint8_t *at;
