@@ -17,13 +17,13 @@
 #include <stdio.h>
 #include <stdlib.h>
 #include <string.h>
-#include <time.h>
+
+#include "times.h"
 
 #ifdef KILNUMBER_LIST
 #include "kilnumber.h"
 #endif
 
-#define REPEATS 15
 #define MOST_BYTES 2097152u
 #define MARK 0x5eed5eedu
 
@@ -165,27 +165,6 @@ static void read_lengths(struct words table, uint8_t lengths[256]) {
 }
 
 /* ------------------------------------------------------------------------- timing */
-
-struct times {
-    double best, median, worst;
-};
-
-static double seconds(void) {
-    struct timespec now;
-    clock_gettime(CLOCK_MONOTONIC, &now);
-    return (double)now.tv_sec + 1e-9 * (double)now.tv_nsec;
-}
-
-static int by_size(const void *one, const void *other) {
-    double a = *(const double *)one, b = *(const double *)other;
-    return (a > b) - (a < b);
-}
-
-static struct times times_of(double taken[REPEATS]) {
-    qsort(taken, REPEATS, sizeof taken[0], by_size);
-    struct times times = {taken[0], taken[REPEATS / 2], taken[REPEATS - 1]};
-    return times;
-}
 
 static void print_times(const char *what, struct times times, size_t items) {
     printf("%-18s best %8.3f ms, median %8.3f ms, worst %8.3f ms; %6.2f ns an item\n", what, 1e3 * times.best,

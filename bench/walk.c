@@ -15,12 +15,12 @@
 #include <stdio.h>
 #include <stdlib.h>
 #include <string.h>
-#include <time.h>
+
+#include "times.h"
 
 #include "kilnumber.h"
 
 #ifndef REPEATS
-#define REPEATS 15
 #endif
 #define NAME_BYTES 16
 #define FLIPS 200       /* flipped bits tried for each tree */
@@ -204,27 +204,6 @@ static void check_equal(struct case_ *made) {
 }
 
 /* ------------------------------------------------------------------------- timing */
-
-struct times {
-    double best, median, worst;
-};
-
-static double seconds(void) {
-    struct timespec now;
-    clock_gettime(CLOCK_MONOTONIC, &now);
-    return (double)now.tv_sec + 1e-9 * (double)now.tv_nsec;
-}
-
-static int by_size(const void *one, const void *other) {
-    double a = *(const double *)one, b = *(const double *)other;
-    return (a > b) - (a < b);
-}
-
-static struct times times_of(double taken[REPEATS]) {
-    qsort(taken, REPEATS, sizeof taken[0], by_size);
-    struct times times = {taken[0], taken[REPEATS / 2], taken[REPEATS - 1]};
-    return times;
-}
 
 typedef uint64_t walker(const uint8_t *, size_t, uint32_t);
 

@@ -1,7 +1,7 @@
 -- What the checker accepts is right, and every generated tree is accepted. Assumes nothing.
 --     Agrees     a tree that is right in a cell, by the rule's parts on leaves and tested bits
 --     Stands     a tree that the words hold from an index on
---     sound, complete     the rule says yes exactly where such a tree stands
+--     sound-from, complete     the rule says yes exactly where such a tree stands
 --     accepted-right     an accepted tree walks every word of the width to what it selects
 --     generated-accepted     every tree that generating writes is accepted, whatever words follow it
 use Prim.Native.Nat.{ℕ, zero, suc, _+_, _^_, _≤_, _<_, zero-le, suc-le-suc}
