@@ -12,7 +12,7 @@ use lib.Seq.{drop-cons}
 use Rattle.words.specs.Tests.{_and_, _or_, allOf}
 use Rattle.words.specs.Words.{word}
 use Rattle.words.proofs.Logic.{cases, and-l, and-r}
-use Rattle.table.specs.Outcome.{Outcome, result, refused}
+use Rattle.words.specs.Outcome.{Outcome, result, refused}
 use Rattle.table.specs.Table.{Entry, sizeOf, entriesAt, entryNumber, tableOf}
 use Rattle.table.specs.Check.{fine, tableCheck, readTable}
 use Rattle.table.specs.Ready.{Ready}

@@ -3,7 +3,7 @@ use Prim.Native.Nat.{ℕ}
 use mathlib.Core.Path.{_≡_, refl}
 use mathlib.Core.List.{List, [], _∷_}
 use mathlib.Core.Option.{Option, none, some}
-use Rattle.table.specs.Outcome.{Outcome, result, refused}
+use Rattle.words.specs.Outcome.{Outcome, result, refused}
 use Rattle.table.specs.Check.{readTable}
 use Rattle.table.specs.Worked.{worked}
 use Rattle.selection.proofs.Examples.{looks}

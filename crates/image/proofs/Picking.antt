@@ -7,7 +7,7 @@ use native.Mathlib.Omega.{arith}
 use borrow.Author.Tests.{eq-eqb, ne-eqb}
 use lib.ListN.{getD, length}
 use Rattle.words.specs.Words.{word}
-use Rattle.table.specs.Outcome.{result, refused}
+use Rattle.words.specs.Outcome.{result, refused}
 use Rattle.table.specs.Table.{Entry, sizeOf, countOf, entryNumber, tableOf}
 use Rattle.table.proofs.Laws.{length-entries}
 use Rattle.table.proofs.Views.{ready-at, ready-place, ready-short}

@@ -2,7 +2,7 @@
 ghost use mathlib.Core.Path.{_≡_};
 ghost use Rattle.table.specs.Table.{tableOf};
 ghost use Rattle.table.specs.Check.{readTable};
-ghost use Rattle.table.specs.Outcome.{result};
+ghost use Rattle.words.specs.Outcome.{result};
 ghost use Rattle.image.specs.Address.{offsetOf};
 ghost use Rattle.image.specs.Listing.{stepFrom, stepOf, saidStep, Lists};
 ghost use Rattle.image.specs.Parts.{Admitted};

@@ -12,7 +12,7 @@ use lib.Seq.{sets, sets-eq, take-at}
 use borrow.Author.Tests.{le-leb, lt-leb, ltb-true}
 use Rattle.words.specs.Words.{word}
 use Rattle.words.proofs.Logic.{cases}
-use Rattle.table.specs.Outcome.{Outcome, result, refused}
+use Rattle.words.specs.Outcome.{Outcome, result, refused}
 use Rattle.table.specs.Table.{Entry, Table, Field, entryNumber, tableOf, entryAt, entriesAt, entryPlace, fieldsAt, fieldsPlace, fieldsOf, countOf, widthOf}
 use Rattle.table.specs.Check.{Check, fine, fault, tableCheck, firstCheck, entryCheck, reading, readTable}
 use Rattle.table.proofs.Laws.{then-l, then-r, length-entries, first-short}

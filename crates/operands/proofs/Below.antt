@@ -6,7 +6,7 @@ use native.Mathlib.Nat.{add-zero}
 use lib.Bits.{bitAnd}
 use lib.Pow.{low, pow-pos}
 use Rattle.words.specs.Words.{part}
-use Rattle.table.specs.Outcome.{result}
+use Rattle.words.specs.Outcome.{result}
 use Rattle.table.specs.Table.{Entry, entryNumber, tableOf, ownBits}
 use Rattle.table.specs.Check.{fine, tableCheck, readTable}
 use Rattle.operands.specs.Calls.{encodeOf}

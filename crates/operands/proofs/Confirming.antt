@@ -10,7 +10,7 @@ use lib.ListN.{length}
 use borrow.Author.Tests.{eq-eqb, ne-eqb, lt-ltb, le-ltb}
 use Rattle.words.specs.Tests.{_and_}
 use Rattle.words.specs.Words.{word}
-use Rattle.table.specs.Outcome.{Outcome, result, refused}
+use Rattle.words.specs.Outcome.{Outcome, result, refused}
 use Rattle.table.specs.Table.{Entry, Table, Field, entryNumber, tableOf, entryAt, fieldsAt, fieldsOf, sizeOf, countOf, widthOf, ownBits}
 use Rattle.table.specs.Check.{fine, tableCheck, firstCheck, entryCheck, fieldsCheck, readTable}
 use Rattle.table.proofs.Laws.{then-l, then-r, length-entries, first-width, field-some, field-below}

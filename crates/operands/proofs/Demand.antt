@@ -6,7 +6,7 @@ use mathlib.Core.Logic.{_↔_}
 use mathlib.Core.List.{List}
 use mathlib.Core.Option.{none, some}
 use Prim.Native.Nat.{ℕ, _-_, _%_, _^_, _≤_, _<_}
-use Rattle.table.specs.Outcome.{result, refused}
+use Rattle.words.specs.Outcome.{result, refused}
 use Rattle.table.specs.Table.{Entry, entryNumber, tableOf}
 use Rattle.table.specs.Check.{fine, tableCheck, readTable}
 use Rattle.selection.specs.Selection.{names, select}

@@ -17,7 +17,7 @@ use Rattle.words.proofs.Parts.{part-lt, run-lt}
 use Rattle.words.proofs.Logic.{cases, and-l, and-r, and-i, first-some}
 use Rattle.words.specs.Words.{word, part, run, includes}
 use Rattle.table.specs.Table.{Entry, Table, Field, entryNumber, tableOf, ownBits, entriesAt, entryAt, entryPlace, countOf, widthOf, sizeOf, fieldsOf}
-use Rattle.table.specs.Outcome.{Outcome, result, refused}
+use Rattle.words.specs.Outcome.{Outcome, result, refused}
 use Rattle.table.specs.Check.{fine, tableCheck, entryCheck, patternCheck, readTable, entriesCheck}
 use Rattle.table.proofs.Laws.{then-l, then-r, need-true, head-below, length-entries}
 use Rattle.table.proofs.Views.{entry-check, entry-at}

@@ -6,7 +6,7 @@ use mathlib.Core.Option.{Option, none, some}
 use lib.Dec.{eqb, ltb, leb}
 use lib.ListN.{length, drop}
 use Rattle.words.specs.Tests.{_and_}
-use Rattle.table.specs.Outcome.{Outcome, result, refused}
+use Rattle.words.specs.Outcome.{Outcome, result, refused}
 use Rattle.table.specs.Table.{Entry, Table, entryNumber}
 use Rattle.selection.specs.Selection.{Choice, names, nothing, ambiguous, select}
 use Rattle.operands.specs.Fields.{valuesIn, placed, misfit}

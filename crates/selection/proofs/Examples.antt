@@ -4,7 +4,7 @@ use mathlib.Core.List.{List, [], _∷_, map}
 use mathlib.Core.Option.{Option, none, some}
 use Prim.Native.Nat.{ℕ}
 use Rattle.words.specs.Tests.{_and_, _or_, allOf, anyOf, every, exists, first}
-use Rattle.table.specs.Outcome.{Outcome, result, refused}
+use Rattle.words.specs.Outcome.{Outcome, result, refused}
 use Rattle.table.specs.Check.{readTable}
 use Rattle.table.proofs.Examples.{opened}
 use Rattle.table.specs.Worked.{worked, printed}

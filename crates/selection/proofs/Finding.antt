@@ -9,7 +9,7 @@ use lib.Dec.{eqb, ltb}
 use lib.ListN.{length, getD}
 use Rattle.words.specs.Tests.{_and_, _or_, every, exists, first}
 use Rattle.words.proofs.Logic.{and-l, and-r, and-i, clash, isFalse, every-same, exists-same, exists-make, exists-no, first-same, first-only, first-no}
-use Rattle.table.specs.Outcome.{Outcome, result, refused}
+use Rattle.words.specs.Outcome.{Outcome, result, refused}
 use Rattle.table.specs.Table.{Entry, entryNumber, entriesAt}
 use Rattle.table.specs.Check.{readTable}
 use Rattle.table.specs.Ready.{Ready}

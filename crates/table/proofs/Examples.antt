@@ -6,7 +6,7 @@ use native.Mathlib.Omega.{arith}
 use lib.ListN.{length, replicate}
 use borrow.Author.Tests.{le-leb, lt-leb}
 use Rattle.words.specs.Words.{part, run, includes}
-use Rattle.table.specs.Outcome.{Outcome, result, refused}
+use Rattle.words.specs.Outcome.{Outcome, result, faulty}
 use Rattle.table.specs.Table.{Pattern, Field, Condition, Entry, Table, fieldBits, fieldsAt, unmatchingAt, conditionsAt, conditionsEnd, entriesAt}
 use Rattle.table.specs.Check.{Check, fault, _then_, need, patternCheck, unmatchingCheck, unmatchingsCheck, conditionCheck, conditionsCheck, fieldRule, fieldCheck, fieldsCheck, headCheck, entryCheck, entriesCheck, firstCheck, tableCheck, readTable}
 use Rattle.table.specs.Answer.{Shape, shapeOf}
@@ -77,7 +77,7 @@ refusals tables = map readTable tables
 -- number 1: empty; kind 2; a spare bit; 257 entries; width 0 and 33
 first-words :
     refusals ([] ∷ (0x20000008 ∷ []) ∷ (0x10000108 ∷ []) ∷ (0x11010008 ∷ []) ∷ (0x10000000 ∷ []) ∷ (0x10000021 ∷ []) ∷ [])
-    ≡ refused 1 0 0 ∷ refused 1 0 0 ∷ refused 1 0 0 ∷ refused 1 0 0 ∷ refused 1 0 0 ∷ refused 1 0 0 ∷ []
+    ≡ faulty 1 0 ∷ faulty 1 0 ∷ faulty 1 0 ∷ faulty 1 0 ∷ faulty 1 0 ∷ faulty 1 0 ∷ []
 unfolding opened
 first-words = refl
 
@@ -110,14 +110,14 @@ cut :
     ∷ (0x10010002 ∷ 0x20000211 ∷ 2 ∷ 2 ∷ 0x30000001 ∷ 0x40000001 ∷ 2 ∷ 2 ∷ 0x50000000 ∷ 1 ∷ [])
     ∷ []
     )
-    ≡ refused 2 1 0 ∷ refused 2 2 0 ∷ refused 2 3 0 ∷ refused 2 4 0 ∷ refused 2 5 0 ∷ refused 2 6 0 ∷ refused 2 7 0 ∷ refused 2 8 0 ∷ refused 2 9 0 ∷ refused 2 10 0 ∷ []
+    ≡ faulty 2 1 ∷ faulty 2 2 ∷ faulty 2 3 ∷ faulty 2 4 ∷ faulty 2 5 ∷ faulty 2 6 ∷ faulty 2 7 ∷ faulty 2 8 ∷ faulty 2 9 ∷ faulty 2 10 ∷ []
 unfolding opened
 cut = refl
 
 -- number 2 at an entry's head: kind 3; length 0; length over the width; 9 fields; 9 conditions
 heads :
     refusals ((0x10010002 ∷ 0x30000211 ∷ []) ∷ (0x10010002 ∷ 0x20000011 ∷ []) ∷ (0x10010002 ∷ 0x20000311 ∷ []) ∷ (0x10010002 ∷ 0x20000290 ∷ []) ∷ (0x10010002 ∷ 0x20000209 ∷ []) ∷ [])
-    ≡ refused 2 1 0 ∷ refused 2 1 0 ∷ refused 2 1 0 ∷ refused 2 1 0 ∷ refused 2 1 0 ∷ []
+    ≡ faulty 2 1 ∷ faulty 2 1 ∷ faulty 2 1 ∷ faulty 2 1 ∷ faulty 2 1 ∷ []
 unfolding opened
 heads = refl
 
@@ -134,7 +134,7 @@ parts :
     ∷ (whole ++ (0 ∷ []))
     ∷ []
     )
-    ≡ refused 2 4 0 ∷ refused 2 4 0 ∷ refused 2 5 0 ∷ refused 2 5 0 ∷ refused 2 5 0 ∷ refused 2 8 0 ∷ refused 2 8 0 ∷ refused 2 11 0 ∷ []
+    ≡ faulty 2 4 ∷ faulty 2 4 ∷ faulty 2 5 ∷ faulty 2 5 ∷ faulty 2 5 ∷ faulty 2 8 ∷ faulty 2 8 ∷ faulty 2 11 ∷ []
 unfolding opened
 parts = refl
 
@@ -149,7 +149,7 @@ patterns :
     ∷ (0x10010002 ∷ 0x20000211 ∷ 2 ∷ 2 ∷ 0x30000001 ∷ 0x40000001 ∷ 2 ∷ 2 ∷ 0x50000000 ∷ 1 ∷ 2 ∷ [])
     ∷ []
     )
-    ≡ refused 3 2 0 ∷ refused 3 2 0 ∷ refused 3 6 0 ∷ refused 3 6 0 ∷ refused 3 9 0 ∷ refused 3 9 0 ∷ []
+    ≡ faulty 3 2 ∷ faulty 3 2 ∷ faulty 3 6 ∷ faulty 3 6 ∷ faulty 3 9 ∷ faulty 3 9 ∷ []
 unfolding opened
 patterns = refl
 
@@ -165,7 +165,7 @@ fields :
     ∷ (0x10010003 ∷ 0x20000300 ∷ 6 ∷ 0 ∷ [])
     ∷ []
     )
-    ≡ refused 4 4 0 ∷ refused 4 4 0 ∷ refused 4 4 0 ∷ refused 4 4 0 ∷ refused 4 5 0 ∷ refused 4 1 0 ∷ refused 4 1 0 ∷ []
+    ≡ faulty 4 4 ∷ faulty 4 4 ∷ faulty 4 4 ∷ faulty 4 4 ∷ faulty 4 5 ∷ faulty 4 1 ∷ faulty 4 1 ∷ []
 unfolding opened
 fields = refl
 
@@ -178,11 +178,11 @@ firsts :
     ∷ (0x10010002 ∷ 0x20000110 ∷ 1 ∷ [])
     ∷ []
     )
-    ≡ refused 2 4 0 ∷ refused 4 5 0 ∷ refused 2 3 0 ∷ []
+    ≡ faulty 2 4 ∷ faulty 4 5 ∷ faulty 2 3 ∷ []
 unfolding opened
 firsts = refl
 
 -- a table of more than 16,384 words is 1, whatever they are
-too-long : (ws : List ℕ) → 16384 < length ws → readTable ws ≡ refused 1 0 0
+too-long : (ws : List ℕ) → 16384 < length ws → readTable ws ≡ faulty 1 0
 unfolding tableCheck firstCheck
 too-long ws h = let l = le-leb 1 (length ws) (omega arith) in simp (l, lt-leb _ _ h, checks)

@@ -14,7 +14,7 @@ use lib.Seq.{getD-set-same, getD-set-other}
 use borrow.Author.Tests.{eqb-true, eqb-false, ltb-true, ltb-false, leb-true, lt-leb, le-leb, lt-ltb, le-ltb}
 use Rattle.words.specs.Words.{word, run}
 use Rattle.words.proofs.Logic.{cases}
-use Rattle.table.specs.Outcome.{Outcome, result, refused}
+use Rattle.words.specs.Outcome.{Outcome, result, faulty}
 use Rattle.table.specs.Table.{Table, fieldLow, fieldWidth, fieldBits, ownBits, sizeOf, fieldsOf, conditionsOf, conditionEnd, conditionsEnd, entryEnd, entryPlace, entriesAt, countOf, widthOf}
 use Rattle.table.specs.Check.{Check, fine, fault, _then_, need, has, patternCheck, unmatchingCheck, unmatchingsCheck, conditionCheck, conditionsCheck, fieldRule, fieldCheck, fieldsCheck, headCheck, entryCheck, entriesCheck, firstCheck, tableCheck, readTable}
 use Rattle.table.specs.Answer.{step, Shape, shapeOf, placeOf, Placed}
@@ -389,7 +389,7 @@ module _ (ws : List ℕ) where
 
   -- a refused table
   module _ (a b : ℕ) (e : tableCheck ws ≡ fault a b) where
-    pub refuses : refused a b 0 ≡ shapeOf (readTable ws)
+    pub refuses : faulty a b ≡ shapeOf (readTable ws)
     refuses = rw e
 
     pub refuses-places : (k : ℕ) → 0 ≡ placeOf (readTable ws) ws k

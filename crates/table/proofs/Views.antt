@@ -9,7 +9,7 @@ use native.Mathlib.Omega.{arith}
 use lib.ListN.{length, getD}
 use borrow.Author.Tests.{leb-true, lt-ltb}
 use Rattle.words.specs.Words.{word}
-use Rattle.table.specs.Outcome.{Outcome, result, refused}
+use Rattle.words.specs.Outcome.{Outcome, result, faulty}
 use Rattle.table.specs.Table.{Table, Entry, widthOf, countOf, sizeOf, fieldsOf, conditionsOf, unmatchingOf, conditionEnd, opcodePlace, fieldsPlace, conditionsPlace, entryAt, entriesAt, entryEnd, entryPlace, tableOf, ownBits}
 use Rattle.table.specs.Check.{Check, fine, fault, reading, readTable, tableCheck, firstCheck, unmatchingsCheck, conditionCheck, conditionsCheck, fieldsCheck, headCheck, patternCheck, entryCheck, entriesCheck}
 use Rattle.table.specs.Ready.{Ready}
@@ -157,16 +157,16 @@ shape-fine : (v : Check) (t : Table) (s : Shape) → result s ≡ shapeOf (readi
 shape-fine fine t s e = refl
 shape-fine (fault n p) t s e = absurd (let z : _≡_ {A = ℕ} 0 1 = cc in omega arith)
 
-shape-refused : (v : Check) (t : Table) (n p w : ℕ) → refused n p w ≡ shapeOf (reading v t) → reading v t ≡ refused n p w
-shape-refused fine t n p w e = absurd (let z : _≡_ {A = ℕ} 0 1 = cc in omega arith)
-shape-refused (fault m q) t n p w e = cc
+shape-faulty : (v : Check) (t : Table) (n p : ℕ) → faulty n p ≡ shapeOf (reading v t) → reading v t ≡ faulty n p
+shape-faulty fine t n p e = absurd (let z : _≡_ {A = ℕ} 0 1 = cc in omega arith)
+shape-faulty (fault m q) t n p e = cc
 
 abbrev shape : ℕ → ℕ → Shape
 shape width count = record { width = width; entries = count }
 
 module _ (ws : List ℕ) (r : Reading) (reads : Reads ws r) where
-  pub reading-refused : (n p : ℕ) → r .answer ≡ Refused n p → readTable ws ≡ refused n p 0
-  reading-refused n p e = shape-refused (tableCheck ws) (tableOf ws) n p 0 (sym (ap said e) ∙ reads .answer)
+  pub reading-faulty : (n p : ℕ) → r .answer ≡ Refused n p → readTable ws ≡ faulty n p
+  reading-faulty n p e = shape-faulty (tableCheck ws) (tableOf ws) n p (sym (ap said e) ∙ reads .answer)
 
   pub reading-ready : (width count : ℕ) → r .answer ≡ Accepted width count → Ready ws (r .places) width count
   reading-ready width count e =

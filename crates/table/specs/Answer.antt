@@ -5,7 +5,7 @@ use mathlib.Core.Path.{_≡_}
 use mathlib.Core.List.{List}
 use lib.Dec.{ltb}
 use lib.ListN.{length, getD}
-use Rattle.table.specs.Outcome.{Outcome, result, refused}
+use Rattle.words.specs.Outcome.{Outcome, result, faulty, refused}
 use Rattle.table.specs.Table.{Table, entryPlace}
 use Rattle.table.specs.Check.{Check, fine, fault, entriesCheck, readTable}
 use Rattle.table.specs.declared.Step.{Step}
@@ -25,16 +25,18 @@ pub record Shape : Type 0 where
 -- the paper's number and values for each case of the answer
 abbrev pub said : Answer → Outcome Shape
 said (Accepted width count) = result (record { width = width; entries = count })
-said (Refused number place) = refused number place 0
+said (Refused number place) = faulty number place
 
 -- what the definition says of the table's shape
 abbrev pub shapeOf : Outcome Table → Outcome Shape
 shapeOf (result t) = result (record { width = t .width; entries = length (t .entries) })
+shapeOf (faulty n p) = faulty n p
 shapeOf (refused n p w) = refused n p w
 
 -- entry k's place; 0 where the table has no entry k, or is refused
 abbrev pub placeOf : Outcome Table → List ℕ → ℕ → ℕ
 placeOf (result t) ws k = cond (ltb k (length (t .entries))) (entryPlace ws k) 0
+placeOf (faulty n p) ws k = 0
 placeOf (refused n p w) ws k = 0
 
 -- reading answers what the definition says, and the array has each entry's place and else zeros

@@ -6,7 +6,7 @@ use lib.Bits.{bitAnd, bitOr}
 use lib.Dec.{eqb, leb}
 use lib.ListN.{length}
 use Rattle.words.specs.Words.{word, bits, run, includes}
-use Rattle.table.specs.Outcome.{Outcome, result, refused}
+use Rattle.words.specs.Outcome.{Outcome, result, faulty}
 use Rattle.table.specs.Table.{Table, kindOf, countOf, widthOf, sizeOf, fieldsOf, conditionsOf, unmatchingOf, fieldLow, fieldWidth, fieldBits, conditionEnd, opcodePlace, fieldsPlace, conditionsPlace, entryEnd, tableOf, ownBits}
 
 -- nothing faulty, or the first fault: its number and its place
@@ -130,7 +130,7 @@ tableCheck ws = firstCheck ws then entriesCheck ws (widthOf (word ws 0)) (countO
 -- reading a table: its first fault, or the table
 abbrev pub reading : Check → Table → Outcome Table
 reading fine t = result t
-reading (fault n p) t = refused n p 0
+reading (fault n p) t = faulty n p
 
 abbrev pub readTable : List ℕ → Outcome Table
 readTable ws = reading (tableCheck ws) (tableOf ws)

@@ -1,4 +1,3 @@
-pub mod Outcome
 pub mod Table
 pub mod Check
 pub mod Lawful

@@ -1,10 +1,12 @@
 // Reads a pattern table: the first fault, numbers 1 to 4, or its width, its number of entries and each entry's place.
+use words::Cause;
 ghost use mathlib.Core.Path.{_≡_};
 ghost use Prim.Native.Nat.{ℕ, _+_, _*_, _≤_, _<_, _^_};
 ghost use lib.ListN.{length, getD};
+ghost use Rattle.words.specs.Outcome.{causeOf};
 ghost use Rattle.table.specs.Table.{fieldLow, fieldWidth, fieldBits, ownBits, conditionEnd, conditionsEnd, entryEnd};
 ghost use Rattle.table.specs.Check.{fine, patternCheck, unmatchingCheck, unmatchingsCheck, conditionCheck, conditionsCheck, fieldRule, fieldCheck, fieldsCheck, headCheck, entryCheck, entriesCheck, firstCheck, readTable};
-ghost use Rattle.table.specs.Answer.{step, AllPlaced, Refusal, Reads};
+ghost use Rattle.table.specs.Answer.{step, said, AllPlaced, Refusal, Reads};
 
 // On to the next place, or the first fault: its number and its place.
 enum Step {
@@ -324,6 +326,26 @@ fn first_word(ws: &[u32]) -> Step
 pub enum Answer {
     Accepted { width: u32, count: u32 },
     Refused { number: u32, place: u32 },
+}
+
+impl Answer {
+    // The fault's number and place.
+    pub fn cause(self) -> Cause
+        ensures { λ r. ⌜ r ≡ causeOf (said self) ⌝ }
+    {
+        match self {
+            Answer::Accepted { width: _, count: _ } => Cause {
+                number: 0,
+                place: 0,
+                word: 0,
+            },
+            Answer::Refused { number, place } => Cause {
+                number,
+                place,
+                word: 0,
+            },
+        }
+    }
 }
 
 // The answer, and beside it the place of each entry of a table without fault; else zeros.

@@ -23,7 +23,7 @@ use Rattle.words.proofs.Parts.{part-lt}
 use Rattle.table.specs.Lawful.{goodTable}
 use Rattle.table.specs.Table.{Entry, Table, entryNumber}
 use Rattle.table.specs.Check.{readTable}
-use Rattle.table.specs.Outcome.{result}
+use Rattle.words.specs.Outcome.{result}
 use Rattle.selection.specs.Selection.{Choice, names, nothing, ambiguous, claims, judge, select}
 use Rattle.selection.proofs.Judging.{answers, judge-names, judge-nothing}
 use Rattle.flat.specs.Nodes.{headerOf, headerRest, nodeOf, testNode, namesNode, nothingNode}

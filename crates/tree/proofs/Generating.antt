@@ -13,7 +13,7 @@ use borrow.Author.Tests.{leb-true, leb-false, le-leb, lt-leb}
 use Rattle.words.specs.Tests.{_and_}
 use Rattle.words.proofs.Logic.{and-i, and-l, and-r, isFalse}
 use Rattle.words.proofs.Lists.{set-sets}
-use Rattle.table.specs.Outcome.{Outcome, result, refused}
+use Rattle.words.specs.Outcome.{Outcome, result, refused}
 use Rattle.table.specs.Table.{Entry, Table, entriesAt}
 use Rattle.table.specs.Check.{readTable}
 use Rattle.table.specs.Ready.{Ready}

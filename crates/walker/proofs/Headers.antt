@@ -9,7 +9,7 @@ use borrow.Author.Tests.{eq-eqb, ne-eqb}
 use Rattle.words.specs.Words.{word}
 use Rattle.words.specs.Bytes.{wordsOf}
 use Rattle.words.proofs.Bytes.{words-length}
-use Rattle.table.specs.Outcome.{Outcome, refused}
+use Rattle.words.specs.Outcome.{Outcome, refused}
 use Rattle.flat.specs.Nodes.{headerOf}
 use Rattle.tree.specs.Walk.{Walk, path, ended, enters, walkOf}
 use Rattle.flat.specs.declared.Header.{Header}

@@ -9,7 +9,7 @@ use mathlib.Core.Option.{none, some}
 use native.Mathlib.Omega.{arith}
 use lib.ListN.{length}
 use Rattle.words.specs.Words.{word, bit}
-use Rattle.table.specs.Outcome.{Outcome, result, refused}
+use Rattle.words.specs.Outcome.{Outcome, result, refused}
 use Rattle.flat.specs.Nodes.{nodeOf}
 use Rattle.tree.specs.Walk.{Path, arrives, breaks, after, onward, path, Walk, ended}
 use Rattle.flat.specs.declared.Node.{Node}

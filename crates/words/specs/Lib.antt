@@ -1,3 +1,4 @@
 pub mod Tests
 pub mod Words
 pub mod Bytes
+pub mod Outcome

@@ -82,3 +82,11 @@ pub fn word_in(bytes: &[u8], i: usize) -> u32
         0
     }
 }
+
+// What refuses a call, as document 01 lists it: the cause's number, and the place and the word returned with it. Zeros where there is
+// none. Each answer gives its own by `cause`, so that a number stands for a cause in one place.
+pub struct Cause {
+    pub number: u32,
+    pub place: u32,
+    pub word: u32,
+}

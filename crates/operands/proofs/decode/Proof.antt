@@ -1,6 +1,6 @@
 use Rattle.operands.proofs.Answering.{decode-short, decode-refused, decode-nothing, Stands, entry-stands, decode-entry}
 use Rattle.words.proofs.Parts.{part-of}
-use Rattle.table.specs.Outcome.{result}
+use Rattle.words.specs.Outcome.{result}
 use Rattle.table.specs.Table.{entryPlace}
 use Rattle.table.specs.Check.{readTable}
 use Rattle.selection.specs.Lookup.{said, lookOf, placeFound}
