@@ -8,7 +8,7 @@ use lib.Dec.{leb, eqb}
 use lib.ListN.{length, take, drop}
 use Rattle.words.specs.Tests.{_and_, _or_, allOf}
 use Rattle.words.specs.Words.{word, bits}
-use Rattle.words.specs.Outcome.{Outcome, result, refused}
+use Rattle.words.specs.Outcome.{Outcome, result, faulty, refused}
 use Rattle.table.specs.Table.{Entry, Table}
 use Rattle.table.specs.Check.{readTable}
 use Rattle.tree.specs.Checker.{accepts}
@@ -41,6 +41,7 @@ need false number rest = refused number 0 0
 
 -- "Numbers 1–4 .. Then: .. listing 15, 16, 14": the entries of a table, where it, the tree and the image are not refused
 unfoldable pub admitted : Outcome Table → List ℕ → List ℕ → Outcome (List Entry)
+admitted (faulty n p) tree image = faulty n p
 admitted (refused n p x) tree image = refused n p x
 admitted (result t) tree image =
     need (imageTable t) 15 (need (imageGood image) 16 (need (accepts (t .entries) (t .width) tree) 14 (result (t .entries))))
@@ -57,6 +58,7 @@ unfoldable pub filledWith : List ℕ → List ℕ → List ℕ
 filledWith is buffer = cond (leb (length is) (length buffer)) (is ++ drop (length is) buffer) (take (length buffer) is)
 
 unfoldable pub listFrom : Outcome (List Entry) → List ℕ → ℕ → Outcome ℕ
+listFrom (faulty n p) image room = faulty n p
 listFrom (refused n p x) image room = refused n p x
 listFrom (result es) image room = counted (items es image) room
 
@@ -65,6 +67,7 @@ unfoldable pub listOf : Outcome Table → List ℕ → List ℕ → ℕ → Outc
 listOf r tree image room = listFrom (admitted r tree image) image room
 
 unfoldable pub bufferFrom : Outcome (List Entry) → List ℕ → List ℕ → List ℕ
+bufferFrom (faulty n p) image buffer = buffer
 bufferFrom (refused n p x) image buffer = buffer
 bufferFrom (result es) image buffer = filledWith (items es image) buffer
 
@@ -79,7 +82,7 @@ saidList (listed.Full a) = refused 17 (a .0) 0
 saidList listed.BadTable = refused 15 0 0
 saidList listed.BadImage = refused 16 0 0
 saidList listed.BadTree = refused 14 0 0
-saidList (listed.Refused number place) = refused number place 0
+saidList (listed.Refused number place) = faulty number place
 
 -- listing answers what the definition says, and the whole buffer is as the definition says
 pub record Lists (ws tree image before after : List ℕ) (r : Listed) : Type 0 where
@@ -90,6 +93,7 @@ pub record Lists (ws tree image before after : List ℕ) (r : Listed) : Type 0 w
 
 -- "at or past the image's end says end", which is none
 unfoldable pub stepFrom : Outcome (List Entry) → List ℕ → HalfwordAddress → Outcome (Option Item)
+stepFrom (faulty n p) image a = faulty n p
 stepFrom (refused n p x) image a = refused n p x
 stepFrom (result es) image a = result (cond (leb (halfwords image) (a .0)) none (some (itemAt es image a)))
 
@@ -104,4 +108,4 @@ saidStep stepped.End = result none
 saidStep stepped.BadTable = refused 15 0 0
 saidStep stepped.BadImage = refused 16 0 0
 saidStep stepped.BadTree = refused 14 0 0
-saidStep (stepped.Refused number place) = refused number place 0
+saidStep (stepped.Refused number place) = faulty number place

@@ -5,7 +5,7 @@ use mathlib.Core.Path.{_≡_}
 use mathlib.Core.List.{List}
 use lib.ListN.{length}
 use Rattle.words.specs.Words.{word}
-use Rattle.words.specs.Outcome.{Outcome, result, refused}
+use Rattle.words.specs.Outcome.{Outcome, result, faulty, refused}
 use Rattle.table.specs.Table.{Entry, countOf, tableOf}
 use Rattle.table.specs.Check.{readTable}
 use Rattle.table.specs.Ready.{Ready}
@@ -33,7 +33,7 @@ saidRefusal refusal.Ready es = result es
 saidRefusal refusal.BadTable es = refused 15 0 0
 saidRefusal refusal.BadImage es = refused 16 0 0
 saidRefusal refusal.BadTree es = refused 14 0 0
-saidRefusal (refusal.Refused number place) es = refused number place 0
+saidRefusal (refusal.Refused number place) es = faulty number place
 
 -- what refuses a listing, or all that a listing needs
 pub record Admits (ws tree image : List ℕ) (r : Admission) : Type 0 where

@@ -4,7 +4,7 @@ use mathlib.Core.Path.{_≡_}
 use mathlib.Core.List.{List}
 use mathlib.Core.Option.{Option, none, some}
 use lib.ListN.{length}
-use Rattle.words.specs.Outcome.{Outcome, result, refused}
+use Rattle.words.specs.Outcome.{Outcome, result, faulty, refused}
 use Rattle.table.specs.Check.{readTable}
 use Rattle.tree.specs.Walk.{Walk}
 use Rattle.image.specs.Listing.{listOf, bufferOf}
@@ -17,11 +17,13 @@ named none = 2 ^ 8
 -- "count in 31–16, number in 39–32 (0 if none), place in 63–48, the rest zero"
 abbrev pub packed : Outcome Walk → ℕ
 packed (result a) = named (a .entry) + a .count * 2 ^ 16
+packed (faulty number place) = number * 2 ^ 32 + place * 2 ^ 48
 packed (refused number place w) = number * 2 ^ 32 + place * 2 ^ 48
 
 -- a listing's, which is ours: the number of items, or the place, in 31–0; the number in 39–32 (0 if none)
 abbrev pub packedItems : Outcome ℕ → ℕ
 packedItems (result n) = n
+packedItems (faulty number place) = number * 2 ^ 32 + place
 packedItems (refused number place w) = number * 2 ^ 32 + place
 
 -- listing for C answers what the definition says, and the whole buffer is as the definition says

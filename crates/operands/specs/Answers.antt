@@ -6,7 +6,7 @@ use mathlib.Core.List.{List, [], _∷_}
 use mathlib.Core.Option.{Option, none, some}
 use lib.Dec.{eqb}
 use lib.ListN.{length, take}
-use Rattle.words.specs.Outcome.{Outcome, result, refused}
+use Rattle.words.specs.Outcome.{Outcome, result, faulty, refused}
 use Rattle.table.specs.Table.{Table, Field}
 use Rattle.table.specs.Check.{readTable}
 use Rattle.selection.specs.Lookup.{lookOf}
@@ -28,7 +28,7 @@ saidDecode decoding.Nothing out = result none-selected
 saidDecode (decoding.Ambiguous w) out = refused 6 0 w
 saidDecode decoding.TooWide out = refused 7 0 0
 saidDecode decoding.NoRoom out = refused 10 0 0
-saidDecode (decoding.Refused number place) out = refused number place 0
+saidDecode (decoding.Refused number place) out = faulty number place
 
 -- decoding answers what the definition says, and the whole buffer is as the definition says
 pub record Decodes (ws : List ℕ) (w : ℕ) (before after : List ℕ) (r : Decoding) : Type 0 where
@@ -37,6 +37,7 @@ pub record Decodes (ws : List ℕ) (w : ℕ) (before after : List ℕ) (r : Deco
 
 -- in a buffer under 8 words: the table's fault, else 10
 unfoldable pub noRoomOf : Outcome Table → Outcome Decoded
+noRoomOf (faulty n p) = faulty n p
 noRoomOf (refused n p x) = refused n p x
 noRoomOf (result t) = refused 10 0 0
 
@@ -48,7 +49,7 @@ saidEncode (encoding.Word w) = result w
 saidEncode (encoding.NotSelected w) = refused 13 0 w
 saidEncode (encoding.Misfit i) = refused 12 i 0
 saidEncode encoding.NoEntry = refused 11 0 0
-saidEncode (encoding.Refused number place) = refused number place 0
+saidEncode (encoding.Refused number place) = faulty number place
 
 -- ---- its parts
 
@@ -78,6 +79,7 @@ saidMaking (making.Misfit i) = misfit-at i
 unfoldable pub confirmed : Outcome (Option ℕ) → ℕ → ℕ → Outcome ℕ
 confirmed (result (some i)) e w = cond (eqb i e) (result w) (refused 13 0 w)
 confirmed (result none) e w = refused 13 0 w
+confirmed (faulty n p) e w = refused 13 0 w
 confirmed (refused n p x) e w = refused 13 0 w
 
 unfoldable pub madeFor : Outcome Table → ℕ → Made → Outcome ℕ

@@ -6,7 +6,7 @@ use mathlib.Core.Option.{Option, none, some}
 use lib.Dec.{eqb, ltb, leb}
 use lib.ListN.{length, drop}
 use Rattle.words.specs.Tests.{_and_}
-use Rattle.words.specs.Outcome.{Outcome, result, refused}
+use Rattle.words.specs.Outcome.{Outcome, result, faulty, refused}
 use Rattle.table.specs.Table.{Entry, Table, entryNumber}
 use Rattle.selection.specs.Selection.{Choice, names, nothing, ambiguous, select}
 use Rattle.operands.specs.Fields.{valuesIn, placed, misfit}
@@ -25,6 +25,7 @@ decodedAs es w ambiguous = refused 6 0 w
 
 -- decoding a word into a buffer of `room` words: the table's faults, then "decoding 10, 7, 6"; "field buffer under 8 words": 10
 unfoldable pub decodeOf : Outcome Table → ℕ → ℕ → Outcome Decoded
+decodeOf (faulty n p) w room = faulty n p
 decodeOf (refused n p x) w room = refused n p x
 decodeOf (result t) w room =
     cond (leb 8 room) (cond (ltb w (2 ^ (t .width))) (decodedAs (t .entries) w (select (t .entries) w)) (refused 7 0 0)) (refused 10 0 0)
@@ -33,6 +34,7 @@ decodeOf (result t) w room =
 unfoldable pub bufferAfter : Outcome Decoded → List ℕ → List ℕ
 bufferAfter (result (entry-values e vs)) out = vs ++ drop (length vs) out
 bufferAfter (result none-selected) out = out
+bufferAfter (faulty n p) out = out
 bufferAfter (refused n p w) out = out
 
 -- ---- encoding
@@ -53,6 +55,7 @@ encodedFrom es e vs none = encodedAs es e (placed (entryNumber es e .opcode .val
 
 -- encoding entry e with values: the table's faults, then "encoding 11, 12, 13"; "no such entry, or wrong count of values": 11
 unfoldable pub encodeOf : Outcome Table → ℕ → List ℕ → Outcome ℕ
+encodeOf (faulty n p) e vs = faulty n p
 encodeOf (refused n p x) e vs = refused n p x
 encodeOf (result t) e vs =
     cond (ltb e (length (t .entries)) and eqb (length vs) (length (entryNumber (t .entries) e .fields)))

@@ -9,7 +9,7 @@ use lib.Dec.{eqb, ltb}
 use lib.ListN.{length, getD}
 use Rattle.words.specs.Tests.{_and_, _or_, every, exists, first}
 use Rattle.words.proofs.Logic.{and-l, and-r, and-i, clash, isFalse, every-same, exists-same, exists-make, exists-no, first-same, first-only, first-no}
-use Rattle.words.specs.Outcome.{Outcome, result, refused}
+use Rattle.words.specs.Outcome.{Outcome, result, refused, faulty}
 use Rattle.table.specs.Table.{Entry, entryNumber, entriesAt}
 use Rattle.table.specs.Check.{readTable}
 use Rattle.table.specs.Ready.{Ready}
@@ -83,9 +83,9 @@ module _ (ws places : List ℕ) (width n w : ℕ) (ready : Ready ws places width
   unfolding lookOf
   looked x c e t s = rw (ready-read ws places width n ready, e) (t ∙ ap (lookedUp w) s)
 
-pub refused-look : (ws : List ℕ) (w a b : ℕ) → readTable ws ≡ refused a b 0 → refused a b 0 ≡ lookOf (readTable ws) w
+pub faulty-look : (ws : List ℕ) (w a b : ℕ) → readTable ws ≡ faulty a b → faulty a b ≡ lookOf (readTable ws) w
 unfolding lookOf
-refused-look ws w a b e = rw e
+faulty-look ws w a b e = rw e
 
 -- the place of the entry that is answered
 pub place-found : (ws places : List ℕ) (width n : ℕ) (ready : Ready ws places width n) (s : Selected) → EntryBelow n s → placeChosen places s ≡ placeFound ws s

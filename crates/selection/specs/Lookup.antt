@@ -5,7 +5,7 @@ use mathlib.Core.Path.{_≡_}
 use mathlib.Core.List.{List}
 use mathlib.Core.Option.{Option, none, some}
 use lib.Dec.{ltb}
-use Rattle.words.specs.Outcome.{Outcome, result, refused}
+use Rattle.words.specs.Outcome.{Outcome, result, faulty, refused}
 use Rattle.table.specs.Table.{Table, entryPlace}
 use Rattle.table.specs.Check.{readTable}
 use Rattle.selection.specs.Selection.{Choice, names, nothing, ambiguous, select}
@@ -21,6 +21,7 @@ lookedUp w ambiguous = refused 6 0 w
 
 -- "lookup 7, 6" after the table's faults; "word has a bit at or above the width": 7
 unfoldable pub lookOf : Outcome Table → ℕ → Outcome (Option ℕ)
+lookOf (faulty n p) w = faulty n p
 lookOf (refused n p x) w = refused n p x
 lookOf (result t) w = cond (ltb w (2 ^ (t .width))) (lookedUp w (select (t .entries) w)) (refused 7 0 0)
 
@@ -30,7 +31,7 @@ said (code.Entry e) = result (some e)
 said code.Nothing = result none
 said (code.Ambiguous w) = refused 6 0 w
 said code.TooWide = refused 7 0 0
-said (code.Refused number place) = refused number place 0
+said (code.Refused number place) = faulty number place
 
 -- the place of the entry that is answered, else 0
 abbrev pub placeFound : List ℕ → Selected → ℕ

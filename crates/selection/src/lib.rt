@@ -1,9 +1,11 @@
 // Selection: which entry of a table a word selects.
 use table::Answer;
+use words::Cause;
 ghost use mathlib.Core.Path.{_≡_};
 ghost use Prim.Native.Nat.{ℕ, _≤_, _<_, _^_};
 ghost use lib.ListN.{getD};
 ghost use mathlib.Core.Bool.{true, false};
+ghost use Rattle.words.specs.Outcome.{causeOf};
 ghost use Rattle.words.specs.Tests.{anyOf};
 ghost use Rattle.table.specs.Table.{patternAt, conditionsAt, entryAt};
 ghost use Rattle.table.specs.Check.{readTable};
@@ -164,6 +166,21 @@ pub enum Selected {
     Ambiguous(u32),
     TooWide,
     Refused(u32, u32),
+}
+
+impl Selected {
+    // Number, place and word of what refuses.
+    pub fn cause(self) -> Cause
+        ensures { λ r. ⌜ r ≡ causeOf (said self) ⌝ }
+    {
+        match self {
+            Selected::Entry(_) => Cause::of(0, 0, 0),
+            Selected::Nothing => Cause::of(0, 0, 0),
+            Selected::Ambiguous(word) => Cause::of(6, 0, word),
+            Selected::TooWide => Cause::of(7, 0, 0),
+            Selected::Refused(number, place) => Cause::of(number, place, 0),
+        }
+    }
 }
 
 // The answer, and the place of the selected entry, or 0.

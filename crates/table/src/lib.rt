@@ -334,16 +334,8 @@ impl Answer {
         ensures { λ r. ⌜ r ≡ causeOf (said self) ⌝ }
     {
         match self {
-            Answer::Accepted { width: _, count: _ } => Cause {
-                number: 0,
-                place: 0,
-                word: 0,
-            },
-            Answer::Refused { number, place } => Cause {
-                number,
-                place,
-                word: 0,
-            },
+            Answer::Accepted { width: _, count: _ } => Cause::of(0, 0, 0),
+            Answer::Refused { number, place } => Cause::of(number, place, 0),
         }
     }
 }

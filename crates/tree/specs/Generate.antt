@@ -8,7 +8,7 @@ use lib.Dec.{leb}
 use lib.ListN.{length, drop, replicate}
 use lib.Seq.{sets}
 use Rattle.words.specs.Tests.{_and_}
-use Rattle.words.specs.Outcome.{Outcome, result, refused}
+use Rattle.words.specs.Outcome.{Outcome, result, faulty, refused}
 use Rattle.table.specs.Table.{Entry, Table}
 use Rattle.table.specs.Check.{readTable}
 use Rattle.cell.specs.Cell.{Cell, start, zeroSide, oneSide}
@@ -33,15 +33,18 @@ judged t room none = cond (fits t room) (result (size t + 1)) (refused 5 0 0)
 judged t room (some w) = cond (fits t room) (refused 6 0 w) (refused 5 0 0)
 
 unfoldable pub generateOf : Outcome Table → ℕ → Outcome ℕ
+generateOf (faulty n p) room = faulty n p
 generateOf (refused n p x) room = refused n p x
 generateOf (result t) room = let g = tree (t .entries) (t .width) in judged g room (conflict start g)
 
 -- the buffer afterwards: unchanged for 1 to 4; "tree buffer all zero" for 5 and 6; else the tree, and "words after the tree are unchanged"
 unfoldable pub leftBy : Table → Outcome ℕ → List ℕ → List ℕ
 leftBy t (result n) out = let words = written (t .width) (tree (t .entries) (t .width)) in words ++ drop (length words) out
+leftBy t (faulty n p) out = replicate (length out) 0
 leftBy t (refused n p w) out = replicate (length out) 0
 
 unfoldable pub bufferOf : Outcome Table → List ℕ → List ℕ
+bufferOf (faulty n p) out = out
 bufferOf (refused n p x) out = out
 bufferOf (result t) out = leftBy t (generateOf (result t) (length out)) out
 
@@ -50,7 +53,7 @@ abbrev pub said : Generated → Outcome ℕ
 said (generated.Words n) = result n
 said generated.NoFit = refused 5 0 0
 said (generated.Ambiguous w) = refused 6 0 w
-said (generated.Refused number place) = refused number place 0
+said (generated.Refused number place) = faulty number place
 
 -- generating answers what the definition says, and the whole buffer is as the definition says
 pub record Generates (ws before after : List ℕ) (r : Generated) : Type 0 where

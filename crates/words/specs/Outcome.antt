@@ -9,8 +9,11 @@ pub data Outcome (A : Type 0) : Type 0 where
   faulty : (number place : ℕ) → Outcome A
   refused : (number place word : ℕ) → Outcome A
 
+abbrev pub causeBy : (number place word : ℕ) → Cause
+causeBy n p w = record { number = n; place = p; word = w }
+
 -- number, place and word of what refuses; zeros where nothing does
 abbrev pub causeOf : {A : Type 0} → Outcome A → Cause
-causeOf (result a) = record { number = 0; place = 0; word = 0 }
-causeOf (faulty n p) = record { number = n; place = p; word = 0 }
-causeOf (refused n p w) = record { number = n; place = p; word = w }
+causeOf (result a) = causeBy 0 0 0
+causeOf (faulty n p) = causeBy n p 0
+causeOf (refused n p w) = causeBy n p w

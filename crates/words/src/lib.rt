@@ -5,6 +5,7 @@ ghost use lib.Dec.{ltb};
 ghost use lib.ListN.{length};
 ghost use Rattle.words.specs.Words.{word, part as partOf, run as runOf};
 ghost use Rattle.words.specs.Bytes.{wordOf, wordsOf};
+ghost use Rattle.words.specs.Outcome.{causeBy};
 
 // The word at an index; 0 past the end.
 pub fn word_at(ws: &[u32], i: usize) -> u32
@@ -89,4 +90,17 @@ pub struct Cause {
     pub number: u32,
     pub place: u32,
     pub word: u32,
+}
+
+impl Cause {
+    // The cause of these parts; of zeros, none.
+    pub fn of(number: u32, place: u32, word: u32) -> Cause
+        ensures { λ r. ⌜ r ≡ causeBy number place word ⌝ }
+    {
+        Cause {
+            number,
+            place,
+            word,
+        }
+    }
 }

@@ -1,4 +1,4 @@
-use Rattle.selection.proofs.Finding.{too-wide, looked, refused-look, chosen-is, place-found}
+use Rattle.selection.proofs.Finding.{too-wide, looked, faulty-look, chosen-is, place-found}
 use Rattle.table.specs.Ready.{Ready}
 use Rattle.table.proofs.Views.{reading-ready, reading-faulty, ready-few}
 use borrow.Author.Tests.{not-true, not-false}
@@ -35,7 +35,7 @@ choose-requires : tie.Need-choose-requires
 choose-requires c κs = ready-few _ _ _ _ (good (c .before .before .before))
 
 returns-2 : tie.Need-returns-2
-returns-2 c = record { answer = refused-look _ _ _ _ (reading-faulty _ _ (c .before .before .before .before .read .ensures) _ _ (c .before .answer .given .1)); place = refl }
+returns-2 c = record { answer = faulty-look _ _ _ _ (reading-faulty _ _ (c .before .before .before .before .read .ensures) _ _ (c .before .answer .given .1)); place = refl }
 
 returns-3 : tie.Need-returns-3
 returns-3 c =

@@ -1,4 +1,4 @@
-use mathlib.Core.Path.{sym, ap}
+use mathlib.Core.Path.{sym, ap, _∙_}
 use Rattle.words.specs.Outcome.{causeOf}
 use Rattle.table.specs.Answer.{said}
 use borrow.Author.Needs.{needs}
@@ -8,14 +8,21 @@ use Rattle.table.proofs.Answer.cause.Tie as tie
 enum-told : tie.Need-enum-told
 enum-told c = search needs
 
+of-requires : tie.Need-of-requires
+of-requires c κs = search needs
+
 enum-known-self : tie.Need-enum-known-self
 enum-known-self c = search needs
 
+of-requires-2 : tie.Need-of-requires-2
+of-requires-2 c κs = search needs
+
 returns : tie.Need-returns
-returns c = ap (λ a. causeOf (said a)) (sym (c .enum-told .given .1))
+returns c = c .of .ensures ∙ ap (λ a. causeOf (said a)) (sym (c .before .enum-told .given .1))
 
 returns-2 : tie.Need-returns-2
-returns-2 c = ap (λ a. causeOf (said a)) (sym (c .before .self .given .1))
+returns-2 c = c .of2 .ensures ∙ ap (λ a. causeOf (said a)) (sym (c .before .before .self .given .1))
 
 pub cause-spec : {M : Type 1} → statement M
-cause-spec = tie.close (tie.spec enum-told enum-known-self returns returns-2)
+cause-spec =
+    tie.close (tie.spec enum-told of-requires enum-known-self of-requires-2 returns returns-2)
