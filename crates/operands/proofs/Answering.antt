@@ -7,12 +7,12 @@ use Prim.Native.Nat.{ℕ, zero, suc, _+_, _^_, _≤_, _<_}
 use native.Mathlib.Nat.{zero-add}
 use native.Mathlib.Omega.{arith}
 use lib.Dec.{ltb, leb}
-use lib.ListN.{length, take, drop}
-use lib.Seq.{sets, sets-eq, take-at}
+use lib.ListN.{length, drop}
+use lib.Seq.{sets, sets-eq}
 use borrow.Author.Tests.{le-leb, lt-leb, ltb-true}
 use Rattle.words.specs.Words.{word}
 use Rattle.words.proofs.Logic.{cases}
-use Rattle.words.specs.Outcome.{Outcome, result, refused}
+use Rattle.words.specs.Outcome.{Outcome, result, faulty, refused}
 use Rattle.table.specs.Table.{Entry, Table, Field, entryNumber, tableOf, entryAt, entriesAt, entryPlace, fieldsAt, fieldsPlace, fieldsOf, countOf, widthOf}
 use Rattle.table.specs.Check.{Check, fine, fault, tableCheck, firstCheck, entryCheck, reading, readTable}
 use Rattle.table.proofs.Laws.{then-l, then-r, length-entries, first-short}
@@ -21,7 +21,7 @@ use Rattle.selection.specs.Selection.{Choice, names, nothing, ambiguous, select
 use Rattle.selection.specs.Lookup.{lookedUp, lookOf}
 use Rattle.operands.specs.Fields.{valuesIn}
 use Rattle.operands.specs.Calls.{Decoded, entry-values, none-selected, decodedAs, decodeOf, bufferAfter}
-use Rattle.operands.specs.Answers.{saidDecode, noRoomOf, Decodes}
+use Rattle.operands.specs.Answers.{firstWords, saidDecode, noRoomOf, Decodes}
 use Rattle.operands.specs.declared.Decoding.{Decoding}
 use Rattle.operands.specs.declared.Decoding.the-variants as decoding
 use Rattle.operands.proofs.Inverse.{selected-lt, decodes, length-values}
@@ -29,9 +29,9 @@ use Rattle.operands.proofs.Inverse.{selected-lt, decodes, length-values
 -- ---- in a buffer under 8 words
 
 -- the reading as its two cases are
-pub no-room-refused : (r : Outcome Table) (a b : ℕ) → r ≡ refused a b 0 → refused a b 0 ≡ noRoomOf r
+pub no-room-faulty : (r : Outcome Table) (a b : ℕ) → r ≡ faulty a b → faulty a b ≡ noRoomOf r
 unfolding noRoomOf
-no-room-refused r a b e = rw e
+no-room-faulty r a b e = rw e
 
 pub no-room-read : (r : Outcome Table) (t : Table) → r ≡ result t → refused 10 0 0 ≡ noRoomOf r
 unfolding noRoomOf
@@ -39,6 +39,7 @@ no-room-read r t e = rw e
 
 decode-little : (r : Outcome Table) (w room : ℕ) → room < 8 → decodeOf r w room ≡ noRoomOf r
 unfolding decodeOf noRoomOf
+decode-little (faulty n p) w room h = refl
 decode-little (refused n p x) w room h = refl
 decode-little (result t) w room h = rw (lt-leb 8 room h)
 
@@ -49,6 +50,7 @@ module _ (ws : List ℕ) (w : ℕ) (out : List ℕ) where
 
   no-room-keeps : (x : Outcome Table) (r : Decoding) → saidDecode r [] ≡ noRoomOf x → (saidDecode r out ≡ noRoomOf x) × (bufferAfter (saidDecode r out) out ≡ out)
   unfolding noRoomOf bufferAfter
+  no-room-keeps (faulty n p) (decoding.Entry e k) h = absurd (let z : _≡_ {A = ℕ} 0 1 = cc in omega arith)
   no-room-keeps (refused n p x) (decoding.Entry e k) h = absurd (let z : _≡_ {A = ℕ} 0 1 = cc in omega arith)
   no-room-keeps (result t) (decoding.Entry e k) h = absurd (let z : _≡_ {A = ℕ} 0 1 = cc in omega arith)
   no-room-keeps x decoding.Nothing h = (h, refl)
@@ -67,9 +69,11 @@ module _ (ws : List ℕ) (w : ℕ) (out : List ℕ) where
 decodeBy : List Entry → ℕ → Outcome (Option ℕ) → Outcome Decoded
 decodeBy es w (result (some e)) = result (entry-values e (valuesIn (entryNumber es e .fields) w))
 decodeBy es w (result none) = result none-selected
+decodeBy es w (faulty n p) = faulty n p
 decodeBy es w (refused n p x) = refused n p x
 
 entriesOf : Outcome Table → List Entry
+entriesOf (faulty n p) = []
 entriesOf (refused n p x) = []
 entriesOf (result t) = t .entries
 
@@ -81,6 +85,7 @@ decode-choice es w ambiguous = refl
 
 decode-look : (r : Outcome Table) (w room : ℕ) → 8 ≤ room → decodeOf r w room ≡ decodeBy (entriesOf r) w (lookOf r w)
 unfolding decodeOf decodeBy lookOf entriesOf
+decode-look (faulty n p) w room h = refl
 decode-look (refused n p x) w room h = refl
 decode-look (result t) w room h =
     rw (le-leb 8 room h)
@@ -91,6 +96,10 @@ module _ (ws : List ℕ) (w : ℕ) (out : List ℕ) (h : 8 ≤ length out) where
   pub decode-refused : (r : Decoding) (n p x : ℕ) → saidDecode r out ≡ refused n p x → refused n p x ≡ lookOf (readTable ws) w → Decodes ws w out out r
   unfolding bufferAfter decodeBy
   decode-refused r n p x q e = keeps ws w out r (q ∙ rw (decode-look (readTable ws) w (length out) h, ← e)) (rw q)
+
+  pub decode-faulty : (n p : ℕ) → faulty n p ≡ lookOf (readTable ws) w → Decodes ws w out out (decoding.Refused n p)
+  unfolding bufferAfter decodeBy
+  decode-faulty n p e = keeps ws w out (decoding.Refused n p) (rw (decode-look (readTable ws) w (length out) h, ← e)) refl
 
   pub decode-nothing : result none ≡ lookOf (readTable ws) w → Decodes ws w out out decoding.Nothing
   unfolding bufferAfter decodeBy
@@ -128,6 +137,12 @@ look-entry fine t w e h =
     (λ a. let g = rw a at h in absurd (let z : _≡_ {A = ℕ} 0 1 = cc in omega arith))
 look-entry (fault n p) t w e h = absurd (let z : _≡_ {A = ℕ} 0 1 = cc in omega arith)
 
+-- the first words of values and what follows
+firsts-are : (vs rest : List ℕ) → firstWords (length vs) (vs ++ rest) ≡ vs
+unfolding firstWords
+firsts-are [] rest = refl
+firsts-are (v ∷ vs) rest = ap (λ (z : List ℕ). v ∷ z) (firsts-are vs rest)
+
 pub length-fields : (ws : List ℕ) (n p : ℕ) → length (fieldsAt ws n p) ≡ n
 unfolding fieldsAt
 length-fields ws zero p = refl
@@ -154,6 +169,6 @@ module _ (ws : List ℕ) (w e place : ℕ) (l : result (some e) ≡ lookOf (read
       let b : after ≡ vs ++ drop (length vs) before
       = a ∙ sets-eq vs before 0 (omega (arith, s .few)) ∙ ap (λ (z : ℕ). vs ++ drop z before) (zero-add (length vs)) in
       record {
-        answer = rw d (ap (λ (z : List ℕ). result (entry-values e z)) (ap (take n) b ∙ take-at vs _ n k));
+        answer = rw d (ap (λ (z : List ℕ). result (entry-values e z)) (ap (firstWords n) b ∙ ap (λ (z : ℕ). firstWords z (vs ++ drop (length vs) before)) (sym k) ∙ firsts-are vs _));
         buffer = rw d b;
       }

@@ -10,7 +10,7 @@ use lib.ListN.{length}
 use borrow.Author.Tests.{eq-eqb, ne-eqb, lt-ltb, le-ltb}
 use Rattle.words.specs.Tests.{_and_}
 use Rattle.words.specs.Words.{word}
-use Rattle.words.specs.Outcome.{Outcome, result, refused}
+use Rattle.words.specs.Outcome.{Outcome, result, faulty, refused}
 use Rattle.table.specs.Table.{Entry, Table, Field, entryNumber, tableOf, entryAt, fieldsAt, fieldsOf, sizeOf, countOf, widthOf, ownBits}
 use Rattle.table.specs.Check.{fine, tableCheck, firstCheck, entryCheck, fieldsCheck, readTable}
 use Rattle.table.proofs.Laws.{then-l, then-r, length-entries, first-width, field-some, field-below}
@@ -42,6 +42,10 @@ module _ (x : Outcome (Option ℕ)) (e w : ℕ) where
   unfolding confirmed
   confirmed-refused n p v h = rw (← h)
 
+  pub confirmed-faulty : (n p : ℕ) → faulty n p ≡ x → refused 13 0 w ≡ confirmed x e w
+  unfolding confirmed
+  confirmed-faulty n p h = rw (← h)
+
 -- ---- a misfit, or a word made; o is the opcode's value as the code has it
 module _ (r : Outcome Table) (e o o′ : ℕ) (fs : List Field) (vs : List ℕ) (q : o ≡ o′) where
   pub made-misfit : (k : ℕ) → misfit-at k ≡ makes 0 o fs vs → refused 12 k 0 ≡ madeFor r e (makes 0 o′ fs vs)
@@ -70,9 +74,9 @@ unfolding madeFor encodedFrom
 made-is t e vs (some i) h = refl
 made-is t e vs none h = confirm-is t e _ (h refl)
 
-pub encode-refused : (ws : List ℕ) (e : ℕ) (vs : List ℕ) (a b : ℕ) → readTable ws ≡ refused a b 0 → refused a b 0 ≡ encodeOf (readTable ws) e vs
+pub encode-faulty : (ws : List ℕ) (e : ℕ) (vs : List ℕ) (a b : ℕ) → readTable ws ≡ faulty a b → faulty a b ≡ encodeOf (readTable ws) e vs
 unfolding encodeOf
-encode-refused ws e vs a b h = rw h
+encode-faulty ws e vs a b h = rw h
 
 module _ (ws : List ℕ) (t : tableCheck ws ≡ fine) (e : ℕ) (vs : List ℕ) where
   pub encode-none : countOf (word ws 0) ≤ e → refused 11 0 0 ≡ encodeOf (readTable ws) e vs

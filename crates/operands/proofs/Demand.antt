@@ -14,7 +14,7 @@ use Rattle.selection.specs.Lookup.{lookOf}
 use Rattle.selection.proofs.Formula.{Selects, Claimed, Unclaimed}
 use Rattle.operands.specs.Calls.{entry-values, decodeOf, encodeOf}
 use Rattle.operands.proofs.Looking.{looks-entry, looks-nothing, looks-ambiguous}
-use Rattle.operands.proofs.Inverse.{table-good, decoded, decode-encode, encode-decode}
+use Rattle.operands.proofs.Inverse.{table-good, looked-up, decode-reads, encode-reads, decode-encode, encode-decode}
 use Rattle.operands.proofs.Below.{made-below}
 
 -- a table that reads, and a word of its width
@@ -35,19 +35,22 @@ module _ (ws : List ℕ) (reads : tableCheck ws ≡ fine) (w : ℕ) (of-width : 
   pub lookup-ambiguous : (lookOf (readTable ws) w ≡ refused 6 0 w) ↔ (Claimed entries w × ((e : ℕ) → Selects entries w e → ⊥))
   lookup-ambiguous = looks-ambiguous ws reads w of-width
 
-  -- "decode and encode are each other's inverse": for every word whose bits below the selected entry's own bits are zero,
-  -- every entry and values, decoding into eight words or more gives that entry and those values
-  -- exactly when encoding that entry with those values gives that word
-  pub inverse : ((e : ℕ) → select entries w ≡ names e → w % 2 ^ (tableOf ws .width - entryNumber entries e .size) ≡ 0)
-      → (room : ℕ) → 8 ≤ room → (e : ℕ) (vs : List ℕ)
-      → (decodeOf (readTable ws) w room ≡ result (entry-values e vs)) ↔ (encodeOf (readTable ws) e vs ≡ result w)
-  inverse clean room h e vs =
-      rw reads (
-        λ d. decode-encode (tableOf ws) (table-good ws reads) w room e vs (clean e (decoded (tableOf ws) w room e vs d .2)) d,
-        λ d. encode-decode (tableOf ws) (table-good ws reads) w room e vs h d,
-      )
+-- "decode and encode are each other's inverse", for every list of words and every word: where the bits below the own bits of the entry
+-- that the word selects are zero, for every entry and values, decoding into eight words or more gives that entry and those values
+-- exactly when encoding that entry with those values gives that word
+pub inverse : (ws : List ℕ) (w : ℕ)
+    → ((e : ℕ) → lookOf (readTable ws) w ≡ result (some e) → w % 2 ^ (tableOf ws .width - entryNumber (tableOf ws .entries) e .size) ≡ 0)
+    → (room : ℕ) → 8 ≤ room → (e : ℕ) (vs : List ℕ)
+    → (decodeOf (readTable ws) w room ≡ result (entry-values e vs)) ↔ (encodeOf (readTable ws) e vs ≡ result w)
+inverse ws w clean room h e vs = (
+  λ d. let r = decode-reads ws w room _ d in
+    let g = rw r at d in
+    rw r (decode-encode (tableOf ws) (table-good ws r) w room e vs (clean e (rw r (looked-up (tableOf ws) w room e vs g))) g),
+  λ d. let r = encode-reads ws e vs w d in
+    rw r (encode-decode (tableOf ws) (table-good ws r) w room e vs h (rw r at d)),
+)
 
 -- a word that encoding makes has no bit below its entry's own bits
-pub made-clean : (ws : List ℕ) → tableCheck ws ≡ fine → (w e : ℕ) (vs : List ℕ) → encodeOf (readTable ws) e vs ≡ result w
+pub made-clean : (ws : List ℕ) (w e : ℕ) (vs : List ℕ) → encodeOf (readTable ws) e vs ≡ result w
     → w % 2 ^ (tableOf ws .width - entryNumber (tableOf ws .entries) e .size) ≡ 0
-made-clean ws reads w e vs d = made-below ws reads w e vs d
+made-clean ws w e vs d = made-below ws (encode-reads ws e vs w d) w e vs d

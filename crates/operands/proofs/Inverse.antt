@@ -17,11 +17,12 @@ use Rattle.words.proofs.Parts.{part-lt, run-lt}
 use Rattle.words.proofs.Logic.{cases, and-l, and-r, and-i, first-some}
 use Rattle.words.specs.Words.{word, part, run, includes}
 use Rattle.table.specs.Table.{Entry, Table, Field, entryNumber, tableOf, ownBits, entriesAt, entryAt, entryPlace, countOf, widthOf, sizeOf, fieldsOf}
-use Rattle.words.specs.Outcome.{Outcome, result, refused}
-use Rattle.table.specs.Check.{fine, tableCheck, entryCheck, patternCheck, readTable, entriesCheck}
+use Rattle.words.specs.Outcome.{Outcome, result, faulty, refused}
+use Rattle.table.specs.Check.{Check, fine, fault, tableCheck, entryCheck, patternCheck, reading, readTable, entriesCheck}
 use Rattle.table.proofs.Laws.{then-l, then-r, need-true, head-below, length-entries}
 use Rattle.table.proofs.Views.{entry-check, entry-at}
 use Rattle.selection.proofs.Judging.{choice-names}
+use Rattle.selection.specs.Lookup.{lookedUp, lookOf}
 use Rattle.selection.specs.Selection.{Choice, names, nothing, ambiguous, choiceOf, select, judge, beats, claims, matches}
 use Rattle.operands.specs.Fields.{valueIn, valuesIn, placed, misfit}
 use Rattle.operands.specs.Calls.{Decoded, entry-values, decodedAs, decodeOf, selects, encodedAs, encodedFrom, encodeOf}
@@ -159,6 +160,30 @@ module _ (t : Table) (e : ℕ) (vs : List ℕ) (w : ℕ) where
   pub encodes : Encodes t e vs w → encodeOf (result t) e vs ≡ result w
   unfolding encodeOf encodedFrom encodedAs
   encodes r = rw (and-i (lt-ltb _ _ (r .entry)) (eq-eqb _ _ (r .count)), r .fits, r .word-made, r .selected, names-selects e)
+
+-- ---- only a table that reads gives an entry or a word
+read-fine : (v : Check) (t : Table) (w room : ℕ) (d : Decoded) → decodeOf (reading v t) w room ≡ result d → v ≡ fine
+unfolding decodeOf
+read-fine fine t w room d h = refl
+read-fine (fault n p) t w room d h = absurd (let z : _≡_ {A = ℕ} 0 1 = cc in omega arith)
+
+pub decode-reads : (ws : List ℕ) (w room : ℕ) (d : Decoded) → decodeOf (readTable ws) w room ≡ result d → tableCheck ws ≡ fine
+decode-reads ws w room d h = read-fine (tableCheck ws) (tableOf ws) w room d h
+
+made-fine : (v : Check) (t : Table) (e : ℕ) (vs : List ℕ) (w : ℕ) → encodeOf (reading v t) e vs ≡ result w → v ≡ fine
+unfolding encodeOf
+made-fine fine t e vs w h = refl
+made-fine (fault n p) t e vs w h = absurd (let z : _≡_ {A = ℕ} 0 1 = cc in omega arith)
+
+pub encode-reads : (ws : List ℕ) (e : ℕ) (vs : List ℕ) (w : ℕ) → encodeOf (readTable ws) e vs ≡ result w → tableCheck ws ≡ fine
+encode-reads ws e vs w h = made-fine (tableCheck ws) (tableOf ws) e vs w h
+
+-- a word that decodes to an entry looks it up
+pub looked-up : (t : Table) (w room e : ℕ) (vs : List ℕ) → decodeOf (result t) w room ≡ result (entry-values e vs) → lookOf (result t) w ≡ result (some e)
+unfolding lookOf
+looked-up t w room e vs h =
+    let d = decoded t w room e vs h in
+    rw (lt-ltb w _ (d .1), d .2)
 
 -- ---- the demand
 module _ (t : Table) (good : GoodTable t) (w room e : ℕ) (vs : List ℕ) where

@@ -5,5 +5,6 @@ pub mod Answering
 pub mod Confirming
 pub mod Looking
 pub mod Below
+pub mod Counting
 pub mod Demand
 pub mod Examples

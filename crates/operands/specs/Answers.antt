@@ -1,11 +1,11 @@
 -- What the code's answers mean.
-use Prim.Native.Nat.{ℕ, _+_, _<_, _≤_}
+use Prim.Native.Nat.{ℕ, zero, suc, _+_, _<_, _≤_}
 use mathlib.Core.Bool.{cond}
 use mathlib.Core.Path.{_≡_}
 use mathlib.Core.List.{List, [], _∷_}
 use mathlib.Core.Option.{Option, none, some}
 use lib.Dec.{eqb}
-use lib.ListN.{length, take}
+use lib.ListN.{length}
 use Rattle.words.specs.Outcome.{Outcome, result, faulty, refused}
 use Rattle.table.specs.Table.{Table, Field}
 use Rattle.table.specs.Check.{readTable}
@@ -21,9 +21,16 @@ use Rattle.operands.specs.declared.Making.the-variants as making
 
 -- ---- decoding
 
--- the paper's number and values for each case of decoding's answer; the values stand in the buffer as it is then
+-- the first n words, and n of them also where the buffer has fewer: zeros stand for the others
+unfoldable pub firstWords : ℕ → List ℕ → List ℕ
+firstWords zero out = []
+firstWords (suc n) [] = 0 ∷ firstWords n []
+firstWords (suc n) (x ∷ out) = x ∷ firstWords n out
+
+-- the paper's number and values for each case of decoding's answer; the n values stand in the buffer as it is then, so that n
+-- is the number of the entry's fields
 abbrev pub saidDecode : Decoding → List ℕ → Outcome Decoded
-saidDecode (decoding.Entry e n) out = result (entry-values e (take n out))
+saidDecode (decoding.Entry e n) out = result (entry-values e (firstWords n out))
 saidDecode decoding.Nothing out = result none-selected
 saidDecode (decoding.Ambiguous w) out = refused 6 0 w
 saidDecode decoding.TooWide out = refused 7 0 0

@@ -1,11 +1,13 @@
 // Decoding and encoding of operand fields.
 use selection::Selected;
 use table::Answer;
+use words::Cause;
 ghost use mathlib.Core.Path.{_≡_};
 ghost use mathlib.Core.List.{[]};
 ghost use Prim.Native.Nat.{ℕ, _+_, _≤_, _<_, _^_};
 ghost use lib.ListN.{length, getD};
 ghost use lib.Seq.{sets};
+ghost use Rattle.words.specs.Outcome.{causeOf};
 ghost use Rattle.table.specs.Table.{fieldsAt};
 ghost use Rattle.table.specs.Check.{readTable};
 ghost use Rattle.selection.specs.Lookup.{lookOf};
@@ -40,6 +42,22 @@ pub enum Decoding {
     TooWide,
     NoRoom,
     Refused(u32, u32),
+}
+
+impl Decoding {
+    // Number, place and word of what refuses.
+    pub fn cause(self) -> Cause
+        ensures { λ r. ⌜ r ≡ causeOf (saidDecode self []) ⌝ }
+    {
+        match self {
+            Decoding::Entry(_, _) => Cause::of(0, 0, 0),
+            Decoding::Nothing => Cause::of(0, 0, 0),
+            Decoding::Ambiguous(word) => Cause::of(6, 0, word),
+            Decoding::TooWide => Cause::of(7, 0, 0),
+            Decoding::NoRoom => Cause::of(10, 0, 0),
+            Decoding::Refused(number, place) => Cause::of(number, place, 0),
+        }
+    }
 }
 
 // The answer where the buffer is under 8 words: the table's fault comes before the buffer's.
@@ -112,6 +130,21 @@ pub enum Encoding {
     Misfit(u32),
     NoEntry,
     Refused(u32, u32),
+}
+
+impl Encoding {
+    // Number, place and word of what refuses.
+    pub fn cause(self) -> Cause
+        ensures { λ r. ⌜ r ≡ causeOf (saidEncode self) ⌝ }
+    {
+        match self {
+            Encoding::Word(_) => Cause::of(0, 0, 0),
+            Encoding::NotSelected(word) => Cause::of(13, 0, word),
+            Encoding::Misfit(index) => Cause::of(12, index, 0),
+            Encoding::NoEntry => Cause::of(11, 0, 0),
+            Encoding::Refused(number, place) => Cause::of(number, place, 0),
+        }
+    }
 }
 
 // A word made for an entry, if it selects that entry.

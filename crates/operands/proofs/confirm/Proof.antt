@@ -1,4 +1,4 @@
-use Rattle.operands.proofs.Confirming.{confirmed-yes, confirmed-other, confirmed-nothing, confirmed-refused}
+use Rattle.operands.proofs.Confirming.{confirmed-yes, confirmed-other, confirmed-nothing, confirmed-refused, confirmed-faulty}
 use Rattle.selection.specs.Lookup.{said}
 use mathlib.Core.Path.{_≡_, refl, sym, ap, _∙_}
 use borrow.Author.Needs.{needs}
@@ -39,7 +39,7 @@ returns-5 : tie.Need-returns-5
 returns-5 c = confirmed-refused _ _ _ _ _ _ (ap said (sym (c .enum-told3 .given .1)) ∙ c .before .before .lookup .ensures)
 
 returns-6 : tie.Need-returns-6
-returns-6 c = confirmed-refused _ _ _ _ _ _ (ap said (sym (c .enum-told4 .given .1)) ∙ c .before .before .lookup .ensures)
+returns-6 c = confirmed-faulty _ _ _ _ _ (ap said (sym (c .enum-told4 .given .1)) ∙ c .before .before .lookup .ensures)
 
 pub confirm-spec : {M : Type 1} → statement M
 confirm-spec =

@@ -1,4 +1,4 @@
-use Rattle.operands.proofs.Answering.{decode-short, decode-refused, decode-nothing, Stands, entry-stands, decode-entry}
+use Rattle.operands.proofs.Answering.{decode-short, decode-refused, decode-faulty, decode-nothing, Stands, entry-stands, decode-entry}
 use Rattle.words.proofs.Parts.{part-of}
 use Rattle.words.specs.Outcome.{result}
 use Rattle.table.specs.Table.{entryPlace}
@@ -65,7 +65,7 @@ take-out-requires c κs =
     (omega (arith, s .near), omega (arith, s .few, part-of _ _ _ 4 4 (c .before .part .ensures) (c .before .before .word-at .ensures), c .before .before .before .before .before .before .before .if1 .left))
 
 returns-2 : tie.Need-returns-2
-returns-2 c = decode-refused _ _ (now (c .before .before .before .before .before .before .before .args .out)) (c .before .before .before .before .if1 .left) _ _ _ _ refl (ap said (sym (c .before .answer .given .1)) ∙ c .before .before .before .find .ensures .answer)
+returns-2 c = decode-faulty _ _ (now (c .before .before .before .before .before .before .before .args .out)) (c .before .before .before .before .if1 .left) _ _ (ap said (sym (c .before .answer .given .1)) ∙ c .before .before .before .find .ensures .answer)
 
 returns-3 : tie.Need-returns-3
 returns-3 c = decode-refused _ _ (now (c .before .before .before .before .before .before .args .out)) (c .before .before .before .if1 .left) _ _ _ _ refl (ap said (sym (c .enum-told .given .1)) ∙ c .before .before .find .ensures .answer)

@@ -1,4 +1,4 @@
-use Rattle.operands.proofs.Confirming.{encode-refused, encode-none, encode-count, encode-made, entry-in-word}
+use Rattle.operands.proofs.Confirming.{encode-faulty, encode-none, encode-count, encode-made, entry-in-word}
 use Rattle.operands.proofs.Answering.{Stands, stands}
 use Rattle.words.specs.Words.{word}
 use Rattle.words.proofs.Parts.{part-of}
@@ -65,7 +65,7 @@ make-requires c κs =
     (omega (arith, s .near), omega (arith, s .few, n, c .if2 .left), entry-in-word _ _ _ _ (good (c .before .before .before .before) .good) s (c .if2 .left ∙ n))
 
 returns-3 : tie.Need-returns-3
-returns-3 c = encode-refused _ _ _ _ _ (reading-faulty _ _ (c .before .before .before .before .read .ensures) _ _ (c .before .answer .given .1))
+returns-3 c = encode-faulty _ _ _ _ _ (reading-faulty _ _ (c .before .before .before .before .read .ensures) _ _ (c .before .answer .given .1))
 
 returns-4 : tie.Need-returns-4
 returns-4 c = encode-made _ (good (c .before .before .before .before .before) .good) _ _ (low (c .before .before .before .before)) _ (here (c .before .before .before .before)) _ (c .before .if2 .left ∙ part-of _ _ _ 4 4 (c .before .before .part .ensures) (c .before .before .before .word-at .ensures)) (c .make .ensures)

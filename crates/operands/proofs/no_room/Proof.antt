@@ -1,4 +1,4 @@
-use Rattle.operands.proofs.Answering.{no-room-refused, no-room-read}
+use Rattle.operands.proofs.Answering.{no-room-faulty, no-room-read}
 use Rattle.table.proofs.Views.{reading-ready, reading-faulty, ready-read}
 use borrow.Author.Needs.{needs}
 use Rattle.operands.proofs.no_room.Statement.{statement}
@@ -14,7 +14,7 @@ enum-told : tie.Need-enum-told
 enum-told c = search needs
 
 returns : tie.Need-returns
-returns c = no-room-refused _ _ _ (reading-faulty _ _ (c .before .before .before .read .ensures) _ _ (c .before .answer .given .1))
+returns c = no-room-faulty _ _ _ (reading-faulty _ _ (c .before .before .before .read .ensures) _ _ (c .before .answer .given .1))
 
 returns-2 : tie.Need-returns-2
 returns-2 c = no-room-read _ _ (ready-read _ _ _ _ (reading-ready _ _ (c .before .before .read .ensures) _ _ (c .enum-told .given .1)))
