@@ -6,7 +6,7 @@ use mathlib.Core.Option.{Option, none, some}
 use lib.ListN.{replicate}
 use Rattle.words.specs.Tests.{_and_, _or_, allOf, anyOf, every, exists, howMany, first, best}
 use Rattle.words.specs.Words.{part, bit, includes}
-use Rattle.words.specs.Outcome.{Outcome, result, refused}
+use Rattle.words.specs.Outcome.{Outcome, result, faulty, refused}
 use Rattle.table.specs.Table.{Entry, tableOf}
 use Rattle.table.specs.Check.{readTable}
 use Rattle.table.specs.Worked.{printed, worked}
@@ -195,6 +195,6 @@ verdicts =
     }
 
 -- a table at fault comes before the tree
-pub check-empty : checkOf (readTable []) [] ≡ refused 1 0 0
+pub check-empty : checkOf (readTable []) [] ≡ faulty 1 0
 unfolding verdict
 check-empty = refl

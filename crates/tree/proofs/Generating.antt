@@ -13,7 +13,7 @@ use borrow.Author.Tests.{leb-true, leb-false, le-leb, lt-leb}
 use Rattle.words.specs.Tests.{_and_}
 use Rattle.words.proofs.Logic.{and-i, and-l, and-r, isFalse}
 use Rattle.words.proofs.Lists.{set-sets}
-use Rattle.words.specs.Outcome.{Outcome, result, refused}
+use Rattle.words.specs.Outcome.{Outcome, result, faulty, refused}
 use Rattle.table.specs.Table.{Entry, Table, entriesAt}
 use Rattle.table.specs.Check.{readTable}
 use Rattle.table.specs.Ready.{Ready}
@@ -115,9 +115,9 @@ module _ (es : List Entry) (width : ℕ) (out : List ℕ) (limit : ℕ) (is : li
           }
 
 -- ---- the public call, from the table's reading
-pub generate-refused : (ws out : List ℕ) (a b : ℕ) → readTable ws ≡ refused a b 0 → Generates ws out out (generated.Refused a b)
+pub generate-faulty : (ws out : List ℕ) (a b : ℕ) → readTable ws ≡ faulty a b → Generates ws out out (generated.Refused a b)
 unfolding generateOf bufferOf
-generate-refused ws out a b e = record { answer = rw e; buffer = rw e }
+generate-faulty ws out a b e = record { answer = rw e; buffer = rw e }
 
 pub generate-read : (ws places before after : List ℕ) (width n : ℕ) (r : Generated) → Ready ws places width n → WritesTree (entriesAt ws n 1) width before after r
     → Generates ws before after r

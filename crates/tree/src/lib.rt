@@ -1,8 +1,10 @@
 // The tree of a table: generating it in its written form, and checking one that is lent.
+use words::Cause;
 ghost use mathlib.Core.Path.{_≡_};
+ghost use Rattle.words.specs.Outcome.{causeOf};
 ghost use Rattle.table.specs.Check.{readTable};
-ghost use Rattle.tree.specs.Checker.{said, checkOf};
-ghost use Rattle.tree.specs.Generate.{Generates};
+ghost use Rattle.tree.specs.Checker.{said as saidCheck, checkOf};
+ghost use Rattle.tree.specs.Generate.{said as saidGenerate, Generates};
 
 mod checker;
 mod maker;
@@ -34,6 +36,20 @@ pub enum Generated {
     Refused(u32, u32),
 }
 
+impl Generated {
+    // Number, place and word of what refuses.
+    pub fn cause(self) -> Cause
+        ensures { λ r. ⌜ r ≡ causeOf (saidGenerate self) ⌝ }
+    {
+        match self {
+            Generated::Words(_) => Cause::of(0, 0, 0),
+            Generated::NoFit => Cause::of(5, 0, 0),
+            Generated::Ambiguous(word) => Cause::of(6, 0, word),
+            Generated::Refused(number, place) => Cause::of(number, place, 0),
+        }
+    }
+}
+
 // Writes the tree of a table at the buffer's start.
 pub fn generate(table: &[u32], out: &mut [u32]) -> Generated
     ensures { λ r. ⌜ Generates (now (table .entry)) (now (out .entry)) (now (out .exit)) r ⌝ }
@@ -56,9 +72,22 @@ pub enum Checked {
     Refused(u32, u32),
 }
 
+impl Checked {
+    // Number, place and word of what refuses.
+    pub fn cause(self) -> Cause
+        ensures { λ r. ⌜ r ≡ causeOf (saidCheck self) ⌝ }
+    {
+        match self {
+            Checked::Yes => Cause::of(0, 0, 0),
+            Checked::No => Cause::of(14, 0, 0),
+            Checked::Refused(number, place) => Cause::of(number, place, 0),
+        }
+    }
+}
+
 // Whether a tree is right for a table, node by node; then every word of the width walks to what it selects.
 pub fn check(table: &[u32], tree: &[u32]) -> Checked
-    ensures { λ r. ⌜ said r ≡ checkOf (readTable (now (table .entry))) (now (tree .entry)) ⌝ }
+    ensures { λ r. ⌜ saidCheck r ≡ checkOf (readTable (now (table .entry))) (now (tree .entry)) ⌝ }
 {
     let reading = table::read(table);
     let answer = reading.answer;

@@ -1,9 +1,11 @@
 // Walking a tree in its written form, given as words or as bytes. Nothing copies the tree: the cost is that of the path.
 use flat::Header;
 use flat::Node;
+use words::Cause;
 ghost use mathlib.Core.Path.{_≡_};
 ghost use Prim.Native.Nat.{ℕ, _≤_, _<_};
 ghost use Rattle.words.specs.Bytes.{wordsOf};
+ghost use Rattle.words.specs.Outcome.{causeOf};
 ghost use Rattle.flat.specs.Nodes.{nodeOf};
 ghost use Rattle.tree.specs.Walk.{path as pathOf, ended, walkOf};
 ghost use Rattle.walker.specs.Walked.{said, Small, walkBytes, wentOf, WentBounds};
@@ -16,6 +18,21 @@ pub enum Walked {
     BadTree,
     TooWide,
     Damaged(u32),
+}
+
+impl Walked {
+    // Number, place and word of what refuses.
+    pub fn cause(self) -> Cause
+        ensures { λ r. ⌜ r ≡ causeOf (said self) ⌝ }
+    {
+        match self {
+            Walked::Entry(_, _) => Cause::of(0, 0, 0),
+            Walked::Nothing(_) => Cause::of(0, 0, 0),
+            Walked::BadTree => Cause::of(8, 0, 0),
+            Walked::TooWide => Cause::of(7, 0, 0),
+            Walked::Damaged(index) => Cause::of(9, index, 0),
+        }
+    }
 }
 
 // Where a path goes from a node: on to an index, or it ends.

@@ -1,7 +1,7 @@
 use mathlib.Core.Path.{sym, _∙_}
 use borrow.Author.Needs.{needs}
 use Rattle.table.proofs.Views.{reading-ready, reading-faulty}
-use Rattle.tree.proofs.Checking.{check-yes, check-no, check-refused}
+use Rattle.tree.proofs.Checking.{check-yes, check-no, check-faulty}
 use Rattle.tree.proofs.check.Statement.{statement}
 use Rattle.tree.proofs.check.Tie as tie
 use Rattle.tree.proofs.check.Reads as reads
@@ -35,7 +35,7 @@ returns c = check-yes _ _ _ _ (reading-ready _ _ (c .before .before .before .bef
 
 -- src/lib.rt:89:1
 returns-2 : tie.Need-returns-2
-returns-2 c = check-refused _ _ _ _ (reading-faulty _ _ (c .before .before .before .before .read .ensures) _ _ (c .before .answer .given .1))
+returns-2 c = check-faulty _ _ _ _ (reading-faulty _ _ (c .before .before .before .before .read .ensures) _ _ (c .before .answer .given .1))
 
 -- src/lib.rt:89:1
 returns-3 : tie.Need-returns-3
