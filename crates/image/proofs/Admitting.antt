@@ -12,7 +12,7 @@ use lib.Seq.{drop-cons}
 use Rattle.words.specs.Tests.{_and_, _or_, allOf}
 use Rattle.words.specs.Words.{word}
 use Rattle.words.proofs.Logic.{cases, and-l, and-r}
-use Rattle.words.specs.Outcome.{Outcome, result, refused}
+use Rattle.words.specs.Outcome.{Outcome, result, faulty, refused}
 use Rattle.table.specs.Table.{Entry, sizeOf, entriesAt, entryNumber, tableOf}
 use Rattle.table.specs.Check.{fine, tableCheck, readTable}
 use Rattle.table.specs.Ready.{Ready}
@@ -30,12 +30,15 @@ use Rattle.image.specs.declared.Refusal.the-variants as refusal
 use Rattle.image.specs.declared.Admission.{Admission}
 use Rattle.image.specs.Address.{halfwords}
 use Rattle.image.specs.Items.{itemAt, items}
-use Rattle.image.specs.Listing.{imageSize, imageTable, imageGood, need, admitted, listFrom, listOf, bufferFrom, bufferOf, saidList, Lists, stepFrom, stepOf, saidStep}
+use Rattle.image.specs.Listing.{imageSize, imageTable, imageGood, refuseUnless, admitted, listFrom, listOf, bufferFrom, bufferOf, saidList, Lists, stepFrom, stepOf, saidStep}
 use Rattle.image.specs.Parts.{Admitted, saidRefusal, Admits, Fills}
 
 -- a result is no refusal
 apart : {n p x : ℕ} {A : Type 0} {v : A} → result v ≡ refused n p x → ⊥
 apart e = let z : _≡_ {A = ℕ} 0 1 = cc in omega arith
+
+not-faulty : {n p : ℕ} {A : Type 0} {v : A} → result v ≡ faulty n p → ⊥
+not-faulty e = let z : _≡_ {A = ℕ} 0 1 = cc in omega arith
 
 -- ---- 15: the entries' lengths, one by one
 
@@ -105,6 +108,10 @@ said-no : (b : Bool) (n p x : ℕ) → refused n p x ≡ verdictOf b → false �
 said-no true n p x e = absurd (apart (sym e))
 said-no false n p x e = refl
 
+said-faulty : (b : Bool) (n p : ℕ) → faulty n p ≡ verdictOf b → false ≡ b
+said-faulty true n p e = absurd (not-faulty (sym e))
+said-faulty false n p e = refl
+
 module _ (ws tree : List ℕ) (good : tableCheck ws ≡ fine) (r : Checked) (q : said r ≡ checkOf (readTable ws) tree) where
   checked-as : said r ≡ verdictOf (accepts (tableOf ws .entries) (tableOf ws .width) tree)
   unfolding checkOf
@@ -116,24 +123,27 @@ module _ (ws tree : List ℕ) (good : tableCheck ws ≡ fine) (r : Checked) (q :
   pub right-no : (n p x : ℕ) → said r ≡ refused n p x → false ≡ accepts (tableOf ws .entries) (tableOf ws .width) tree
   right-no n p x k = said-no _ n p x (sym k ∙ checked-as)
 
+  pub right-faulty : (n p : ℕ) → said r ≡ faulty n p → false ≡ accepts (tableOf ws .entries) (tableOf ws .width) tree
+  right-faulty n p k = said-faulty _ n p (sym k ∙ checked-as)
+
 -- ---- the chain 15, 16, 14, for a table that reads
 
 module _ (ws tree image : List ℕ) (good : tableCheck ws ≡ fine) where
   pub chain-table : imageTable (tableOf ws) ≡ false → refused 15 0 0 ≡ admitted (readTable ws) tree image
-  unfolding admitted need
+  unfolding admitted refuseUnless
   chain-table t = rw (good, t) refl
 
   pub chain-image : imageTable (tableOf ws) ≡ true → imageGood image ≡ false → refused 16 0 0 ≡ admitted (readTable ws) tree image
-  unfolding admitted need
+  unfolding admitted refuseUnless
   chain-image t g = rw (good, t, g) refl
 
   module _ (t : imageTable (tableOf ws) ≡ true) (g : imageGood image ≡ true) where
     pub chain-tree : accepts (tableOf ws .entries) (tableOf ws .width) tree ≡ false → refused 14 0 0 ≡ admitted (readTable ws) tree image
-    unfolding admitted need
+    unfolding admitted refuseUnless
     chain-tree a = rw (good, t, g, a) refl
 
     pub chain-ready : accepts (tableOf ws .entries) (tableOf ws .width) tree ≡ true → result (tableOf ws .entries) ≡ admitted (readTable ws) tree image
-    unfolding admitted need
+    unfolding admitted refuseUnless
     chain-ready a = rw (good, t, g, a) refl
 
   -- the same backwards
@@ -151,9 +161,9 @@ module _ (ws tree image : List ℕ) (good : tableCheck ws ≡ fine) where
 -- ---- what admit answers
 
 module _ (ws tree image places : List ℕ) where
-  pub admits-refused : (n p : ℕ) → readTable ws ≡ refused n p 0 → Admits ws tree image (record { refusal = refusal.Refused n p; places = places })
+  pub admits-faulty : (n p : ℕ) → readTable ws ≡ faulty n p → Admits ws tree image (record { refusal = refusal.Refused n p; places = places })
   unfolding admitted
-  admits-refused n p e = record { answer = rw e refl; ready = λ k. absurd (let z : _≡_ {A = ℕ} 0 1 = cc in omega arith) }
+  admits-faulty n p e = record { answer = rw e refl; ready = λ k. absurd (let z : _≡_ {A = ℕ} 0 1 = cc in omega arith) }
 
   pub admits-read : (width count : ℕ) → Ready ws places width count → (f : Refusal) → saidRefusal f (tableOf ws .entries) ≡ admitted (readTable ws) tree image
       → Admits ws tree image (record { refusal = f; places = places })
@@ -179,6 +189,15 @@ module _ (ws tree image : List ℕ) (a : Admission) (m : Admits ws tree image a)
     pub step-refused : (at : HalfwordAddress) (r : Stepped) → saidStep r ≡ refused n p x → saidStep r ≡ stepOf (readTable ws) tree image at
     unfolding stepOf stepFrom
     step-refused at r s = s ∙ rw (sym is-admitted ∙ e) refl
+
+  module _ (n p : ℕ) (e : saidRefusal f (tableOf ws .entries) ≡ faulty n p) where
+    pub list-faulty : (out : List ℕ) → Lists ws tree image out out (listed.Refused n p)
+    unfolding listOf listFrom bufferOf bufferFrom
+    list-faulty out = record { answer = rw (sym is-admitted ∙ e) refl; buffer = rw (sym is-admitted ∙ e) refl }
+
+    pub step-faulty : (at : HalfwordAddress) → faulty n p ≡ stepOf (readTable ws) tree image at
+    unfolding stepOf stepFrom
+    step-faulty at = rw (sym is-admitted ∙ e) refl
 
   module _ (e : saidRefusal f (tableOf ws .entries) ≡ result (tableOf ws .entries)) where
     pub list-filled : (before out : List ℕ) (r : Listed) → Fills (items (tableOf ws .entries) image) before out r → Lists ws tree image before out r

@@ -3,7 +3,7 @@ use Prim.Native.Nat.{ℕ}
 use mathlib.Core.Path.{_≡_, refl}
 use mathlib.Core.List.{List, [], _∷_}
 use mathlib.Core.Option.{Option, none, some}
-use Rattle.words.specs.Outcome.{Outcome, result, refused}
+use Rattle.words.specs.Outcome.{Outcome, result, faulty, refused}
 use Rattle.table.specs.Check.{readTable}
 use Rattle.table.specs.Worked.{worked}
 use Rattle.selection.proofs.Examples.{looks}
@@ -12,7 +12,7 @@ use Rattle.image.specs.declared.HalfwordAddress.{HalfwordAddress}
 use Rattle.image.specs.declared.Item.{Item}
 use Rattle.image.specs.Address.{halfwordAt, wordAt}
 use Rattle.image.specs.Items.{pickedBy, picked, foundWord, nothingWord, cutWord, itemOf, itemAt, itemsFrom, items}
-use Rattle.image.specs.Listing.{imageSize, imageTable, imageGood, need, admitted, counted, filledWith, listFrom, listOf, bufferFrom, bufferOf, stepFrom, stepOf}
+use Rattle.image.specs.Listing.{imageSize, imageTable, imageGood, refuseUnless, admitted, counted, filledWith, listFrom, listOf, bufferFrom, bufferOf, stepFrom, stepOf}
 
 -- width 32: entry 0 has 16 bits, 0 and a field of 15; entry 1 has 32 bits, 10 and a field of 30; 11 is nothing
 abbrev table : List ℕ
@@ -52,7 +52,7 @@ item word next = result (some (record { word = word; next = at next }))
 
 -- listing by this table, with every definition open
 unfoldable pub lists : List ℕ → List ℕ → ℕ → Outcome ℕ
-unfolding verdict looks halfwordAt wordAt pickedBy picked foundWord nothingWord cutWord itemOf itemAt itemsFrom items imageSize imageTable imageGood need admitted counted filledWith listFrom listOf bufferFrom bufferOf stepFrom stepOf
+unfolding verdict looks halfwordAt wordAt pickedBy picked foundWord nothingWord cutWord itemOf itemAt itemsFrom items imageSize imageTable imageGood refuseUnless admitted counted filledWith listFrom listOf bufferFrom bufferOf stepFrom stepOf
 lists tree image room = listOf (readTable table) tree image room
 
 -- ---- a whole listing
@@ -74,7 +74,7 @@ listings = record { whole = refl; buffer = refl; exact = refl; full = refl; earl
 -- ---- what refuses, in its order: the table's faults, 15, 16, 14, 17
 
 pub record Refusals : Type 0 where
-  pub no-table : listOf (readTable []) wrong-tree odd 0 ≡ refused 1 0 0
+  pub no-table : listOf (readTable []) wrong-tree odd 0 ≡ faulty 1 0
   pub width-8 : listOf (readTable worked) wrong-tree odd 0 ≡ refused 15 0 0
   pub length-24 : listOf (readTable other-length) tree image 6 ≡ refused 15 0 0
   pub odd-image : listOf (readTable table) wrong-tree odd 0 ≡ refused 16 0 0

@@ -35,16 +35,16 @@ unfoldable pub imageGood : List ℕ → Bool
 imageGood image = eqb (length image % 2) 0 and leb (length image) 2097152
 
 -- go on where the test holds, else refuse with the cause's number
-unfoldable pub need : {A : Type 0} → Bool → ℕ → Outcome A → Outcome A
-need true number rest = rest
-need false number rest = refused number 0 0
+unfoldable pub refuseUnless : {A : Type 0} → Bool → ℕ → Outcome A → Outcome A
+refuseUnless true number rest = rest
+refuseUnless false number rest = refused number 0 0
 
 -- "Numbers 1–4 .. Then: .. listing 15, 16, 14": the entries of a table, where it, the tree and the image are not refused
 unfoldable pub admitted : Outcome Table → List ℕ → List ℕ → Outcome (List Entry)
 admitted (faulty n p) tree image = faulty n p
 admitted (refused n p x) tree image = refused n p x
 admitted (result t) tree image =
-    need (imageTable t) 15 (need (imageGood image) 16 (need (accepts (t .entries) (t .width) tree) 14 (result (t .entries))))
+    refuseUnless (imageTable t) 15 (refuseUnless (imageGood image) 16 (refuseUnless (accepts (t .entries) (t .width) tree) 14 (result (t .entries))))
 
 -- ---- a whole listing
 

@@ -1,10 +1,11 @@
 // The lister: an image of halfwords, item by item, by a table and a tree that the checker accepts for it.
+use words::Cause;
 ghost use mathlib.Core.Path.{_≡_};
+ghost use Rattle.words.specs.Outcome.{causeOf, result};
 ghost use Rattle.table.specs.Table.{tableOf};
 ghost use Rattle.table.specs.Check.{readTable};
-ghost use Rattle.words.specs.Outcome.{result};
 ghost use Rattle.image.specs.Address.{offsetOf};
-ghost use Rattle.image.specs.Listing.{stepFrom, stepOf, saidStep, Lists};
+ghost use Rattle.image.specs.Listing.{saidList, stepFrom, stepOf, saidStep, Lists};
 ghost use Rattle.image.specs.Parts.{Admitted};
 
 mod lister;
@@ -62,6 +63,22 @@ pub enum Listed {
     Refused(u32, u32),
 }
 
+impl Listed {
+    // Number, place and word of what refuses.
+    pub fn cause(self) -> Cause
+        ensures { λ r. ⌜ r ≡ causeOf (saidList self) ⌝ }
+    {
+        match self {
+            Listed::Items(_) => Cause::of(0, 0, 0),
+            Listed::Full(address) => Cause::of(17, address.0, 0),
+            Listed::BadTable => Cause::of(15, 0, 0),
+            Listed::BadImage => Cause::of(16, 0, 0),
+            Listed::BadTree => Cause::of(14, 0, 0),
+            Listed::Refused(number, place) => Cause::of(number, place, 0),
+        }
+    }
+}
+
 // Lists a whole image into the buffer.
 pub fn list(table: &[u32], tree: &[u32], image: &[u8], out: &mut [u32]) -> Listed
     ensures { λ r. ⌜ Lists (now (table .entry)) (now (tree .entry)) (now (image .entry)) (now (out .entry)) (now (out .exit)) r ⌝ }
@@ -86,6 +103,22 @@ pub enum Stepped {
     BadImage,
     BadTree,
     Refused(u32, u32),
+}
+
+impl Stepped {
+    // Number, place and word of what refuses.
+    pub fn cause(self) -> Cause
+        ensures { λ r. ⌜ r ≡ causeOf (saidStep self) ⌝ }
+    {
+        match self {
+            Stepped::Item(_, _) => Cause::of(0, 0, 0),
+            Stepped::End => Cause::of(0, 0, 0),
+            Stepped::BadTable => Cause::of(15, 0, 0),
+            Stepped::BadImage => Cause::of(16, 0, 0),
+            Stepped::BadTree => Cause::of(14, 0, 0),
+            Stepped::Refused(number, place) => Cause::of(number, place, 0),
+        }
+    }
 }
 
 // The step where nothing is refused.

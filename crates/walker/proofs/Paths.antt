@@ -9,7 +9,7 @@ use mathlib.Core.Option.{none, some}
 use native.Mathlib.Omega.{arith}
 use lib.ListN.{length}
 use Rattle.words.specs.Words.{word, bit}
-use Rattle.words.specs.Outcome.{Outcome, result, refused}
+use Rattle.words.specs.Outcome.{Outcome, result, faulty, refused}
 use Rattle.flat.specs.Nodes.{nodeOf}
 use Rattle.tree.specs.Walk.{Path, arrives, breaks, after, onward, path, Walk, ended}
 use Rattle.flat.specs.declared.Node.{Node}
@@ -21,6 +21,7 @@ use Rattle.walker.specs.declared.Went.the-variants as went
 -- an answer with k more tests
 abbrev pub plus : ℕ → Outcome Walk → Outcome Walk
 plus k (result a) = result (record { entry = a .entry; count = k + a .count })
+plus k (faulty n p) = faulty n p
 plus k (refused n p x) = refused n p x
 
 plus-after : (k b : ℕ) (p : Path) → plus k (ended (after b p)) ≡ plus (k + 1) (ended p)

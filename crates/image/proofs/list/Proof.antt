@@ -1,6 +1,6 @@
 use mathlib.Core.Path.{refl}
 use denote.Ref.{now}
-use Rattle.image.proofs.Admitting.{list-refused, list-filled}
+use Rattle.image.proofs.Admitting.{list-refused, list-faulty, list-filled}
 use borrow.Author.Needs.{needs}
 use Rattle.image.proofs.list.Statement.{statement}
 use Rattle.image.proofs.list.Tie as tie
@@ -36,7 +36,7 @@ returns-3 : tie.Need-returns-3
 returns-3 c = list-refused _ _ _ _ (c .before .before .before .admit .ensures) _ (c .enum-told3 .given .1) _ _ _ refl (now (c .before .before .before .before .before .before .before .before .args .out)) _ refl
 
 returns-4 : tie.Need-returns-4
-returns-4 c = list-refused _ _ _ _ (c .before .before .before .before .admit .ensures) _ (c .before .refusal .given .1) _ _ _ refl (now (c .before .before .before .before .before .before .before .before .before .args .out)) _ refl
+returns-4 c = list-faulty _ _ _ _ (c .before .before .before .before .admit .ensures) _ (c .before .refusal .given .1) _ _ refl (now (c .before .before .before .before .before .before .before .before .before .args .out))
 
 same-length : tie.Need-same-length
 same-length c = search needs

@@ -1,6 +1,6 @@
 use Rattle.image.specs.declared.Stepped.the-variants as stepped
 use mathlib.Core.Path.{refl}
-use Rattle.image.proofs.Admitting.{step-refused, step-made}
+use Rattle.image.proofs.Admitting.{step-refused, step-faulty, step-made}
 use borrow.Author.Needs.{needs}
 use Rattle.image.proofs.step_at.Statement.{statement}
 use Rattle.image.proofs.step_at.Tie as tie
@@ -36,7 +36,7 @@ returns-3 : tie.Need-returns-3
 returns-3 c = step-refused _ _ _ _ (c .before .before .before .admit .ensures) _ (c .enum-told3 .given .1) _ _ _ refl _ stepped.BadTree refl
 
 returns-4 : tie.Need-returns-4
-returns-4 c = step-refused _ _ _ _ (c .before .before .before .before .admit .ensures) _ (c .before .refusal .given .1) _ _ _ refl _ (stepped.Refused _ _) refl
+returns-4 c = step-faulty _ _ _ _ (c .before .before .before .before .admit .ensures) _ (c .before .refusal .given .1) _ _ refl _
 
 returns-5 : tie.Need-returns-5
 returns-5 c = step-made _ _ _ _ (c .before .before .before .before .before .admit .ensures) _ (c .before .before .enum-told4 .given .1) refl _ (c .step-ready .result) (c .step-ready .ensures)

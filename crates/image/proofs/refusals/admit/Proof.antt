@@ -1,5 +1,5 @@
 use Rattle.table.proofs.Views.{reading-ready, reading-faulty}
-use Rattle.image.proofs.Admitting.{admits-refused, admits-read}
+use Rattle.image.proofs.Admitting.{admits-faulty, admits-read}
 use borrow.Author.Needs.{needs}
 use Rattle.image.proofs.refusals.admit.Statement.{statement}
 use Rattle.image.proofs.refusals.admit.Tie as tie
@@ -17,7 +17,7 @@ first-refusal-requires : tie.Need-first-refusal-requires
 first-refusal-requires c κs = reading-ready _ _ (c .before .before .before .before .before .read .ensures) _ _ (c .before .before .answer2 .given .1)
 
 returns : tie.Need-returns
-returns c = admits-refused _ _ _ _ _ _ (reading-faulty _ _ (c .before .before .before .before .read .ensures) _ _ (c .before .answer .given .1))
+returns c = admits-faulty _ _ _ _ _ _ (reading-faulty _ _ (c .before .before .before .before .read .ensures) _ _ (c .before .answer .given .1))
 
 returns-2 : tie.Need-returns-2
 returns-2 c = admits-read _ _ _ _ _ _ (reading-ready _ _ (c .before .before .before .before .before .before .read .ensures) _ _ (c .before .before .before .answer2 .given .1)) _ (c .first-refusal .ensures)
