@@ -23,6 +23,7 @@ use Rattle.tree.specs.declared.Checked.{Checked}
 use Rattle.image.specs.declared.HalfwordAddress.{HalfwordAddress}
 use Rattle.image.specs.declared.Item.{Item}
 use Rattle.image.specs.declared.Listed.{Listed}
+use Rattle.image.specs.declared.Listed.the-variants as listed
 use Rattle.image.specs.declared.Stepped.{Stepped}
 use Rattle.image.specs.declared.Stepped.the-variants as stepped
 use Rattle.image.specs.declared.Refusal.{Refusal}

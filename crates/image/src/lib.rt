@@ -1,10 +1,11 @@
 // The lister: an image of halfwords, item by item, by a table and a tree that the checker accepts for it.
 use words::Cause;
 ghost use mathlib.Core.Path.{_≡_};
+ghost use Prim.Native.Nat.{_≤_, _^_};
 ghost use Rattle.words.specs.Outcome.{causeOf, result};
 ghost use Rattle.table.specs.Table.{tableOf};
 ghost use Rattle.table.specs.Check.{readTable};
-ghost use Rattle.image.specs.Address.{offsetOf};
+ghost use Rattle.image.specs.Address.{offsetOf, halfwords as halfwordsOf};
 ghost use Rattle.image.specs.Listing.{saidList, stepFrom, stepOf, saidStep, Lists};
 ghost use Rattle.image.specs.Parts.{Admitted};
 
@@ -22,6 +23,14 @@ pub fn byte_offset(a: HalfwordAddress) -> ByteOffset
     ensures { λ r. ⌜ r ≡ offsetOf a ⌝ }
 {
     ByteOffset(2 * (a.0 as u64))
+}
+
+// How many halfwords an image has: the address at its end.
+fn halfwords(image: &[u8]) -> u32
+    requires { ⌜ halfwordsOf (now image) ≤ 2 ^ 20 ⌝ }
+    ensures { λ r. ⌜ r ≡ halfwordsOf (now (image .entry)) ⌝ }
+{
+    (image.len() / 2) as u32
 }
 
 // What a word selects, by the length of the entry: 16 bits or 32.
@@ -132,7 +141,7 @@ fn step_ready(
     requires { ⌜ Admitted (now table) (now places) (now tree) (now image) ⌝ }
     ensures { λ r. ⌜ saidStep r ≡ stepFrom (result (tableOf (now (table .entry)) .entries)) (now (image .entry)) at ⌝ }
 {
-    let end = (image.len() / 2) as u32;
+    let end = halfwords(image);
     if end <= at.0 {
         return Stepped::End;
     }

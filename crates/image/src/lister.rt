@@ -5,12 +5,13 @@ use crate::Item;
 use crate::Listed;
 use crate::Picked;
 use crate::byte_offset;
+use crate::halfwords;
 use walker::Walked;
 ghost use mathlib.Core.Path.{_≡_};
 ghost use Prim.Native.Nat.{_+_, _*_, _^_, _≤_, _<_};
 ghost use lib.ListN.{getD};
 ghost use Rattle.table.specs.Table.{tableOf};
-ghost use Rattle.image.specs.Address.{halfwordAt, wordAt, halfwords};
+ghost use Rattle.image.specs.Address.{halfwordAt, wordAt, halfwords as halfwordsOf};
 ghost use Rattle.image.specs.Items.{picked, foundWord, nothingWord, cutWord, itemOf, itemAt, items};
 ghost use Rattle.image.specs.Parts.{Usable, Admitted, Fills};
 
@@ -139,10 +140,10 @@ pub fn item_at(
     image: &[u8],
     a: HalfwordAddress,
 ) -> Item
-    requires { ⌜ Admitted (now table) (now places) (now tree) (now image) × (a .0 < halfwords (now image)) ⌝ }
+    requires { ⌜ Admitted (now table) (now places) (now tree) (now image) × (a .0 < halfwordsOf (now image)) ⌝ }
     ensures { λ r. ⌜ r ≡ itemAt (tableOf (now (table .entry)) .entries) (now (image .entry)) a ⌝ }
 {
-    let end = (image.len() / 2) as u32;
+    let end = halfwords(image);
     item_of(pick(table, places, tree, word(image, a)), a, end)
 }
 
@@ -157,7 +158,7 @@ pub fn fill(
     requires { ⌜ Admitted (now table) (now places) (now tree) (now image) ⌝ }
     ensures { λ r. ⌜ Fills (items (tableOf (now (table .entry)) .entries) (now (image .entry))) (now (out .entry)) (now (out .exit)) r ⌝ }
 {
-    let end = (image.len() / 2) as u32;
+    let end = halfwords(image);
     let mut at = HalfwordAddress(0);
     let mut n: usize = 0;
     while at.0 < end {

@@ -14,8 +14,8 @@ Inv-loop table places tree image out₀ end at₀ n₀ out at n = Filling (table
 abbrev μ-loop : tie.MeasureT-loop
 μ-loop table places tree image out₀ end at₀ n₀ out at n = halfwords image - at .0
 
-cast-end : tie.Need-cast-end Inv-loop μ-loop
-cast-end c = omega (arith, c .before .before .before .before .pre .short)
+halfwords-requires : tie.Need-halfwords-requires Inv-loop μ-loop
+halfwords-requires c κs = c .before .before .before .before .pre .short
 
 loop-holds : tie.Need-loop-holds Inv-loop μ-loop
 loop-holds c = filling-start _ _ _
@@ -24,10 +24,10 @@ same-length : tie.Need-same-length Inv-loop μ-loop
 same-length c = search needs
 
 returns : tie.Need-returns Inv-loop μ-loop
-returns c = filling-full _ _ _ _ _ _ (c .before .before .before .loop .inv) (omega (arith, c .before .if1 .taken)) (c .before .before .before .before .before .before .before .before .pre .short) (c .if2 .taken)
+returns c = filling-full _ _ _ _ _ _ (c .before .before .before .loop .inv) (omega (arith, c .before .if1 .taken, c .before .before .before .before .halfwords .ensures)) (c .before .before .before .before .before .before .before .before .before .pre .short) (c .if2 .taken)
 
 item-at-requires : tie.Need-item-at-requires Inv-loop μ-loop
-item-at-requires c κs = (c .before .before .before .before .before .before .before .before .pre, omega (arith, c .before .if1 .taken))
+item-at-requires c κs = (c .before .before .before .before .before .before .before .before .before .pre, omega (arith, c .before .if1 .taken, c .before .before .before .before .halfwords .ensures))
 
 mul-out : tie.Need-mul-out Inv-loop μ-loop
 mul-out c = search needs
@@ -39,19 +39,19 @@ add-n : tie.Need-add-n Inv-loop μ-loop
 add-n c = search needs
 
 loop-less : tie.Need-loop-less Inv-loop μ-loop
-loop-less c = let x = c .before .before .before .before .before .before .before .before .before .before .args in filling-less (tableOf (x .table .now) .entries) (x .image .now) (x .out .now) (c .before .before .before .before .before .loop .at) (omega (arith, c .before .before .before .if1 .taken)) (c .before .item-at .result) (c .before .item-at .ensures)
+loop-less c = let x = c .before .before .before .before .before .before .before .before .before .before .before .args in filling-less (tableOf (x .table .now) .entries) (x .image .now) (x .out .now) (c .before .before .before .before .before .loop .at) (omega (arith, c .before .before .before .if1 .taken, c .before .before .before .before .before .before .halfwords .ensures)) (c .before .item-at .result) (c .before .item-at .ensures)
 
 loop-again : tie.Need-loop-again Inv-loop μ-loop
-loop-again c = rw add-one (filling-more _ _ _ _ _ _ (c .before .before .before .before .before .loop .inv) (omega (arith, c .before .before .before .if1 .taken)) (c .before .before .if2 .left) (c .before .item-at .result) (c .before .item-at .ensures))
+loop-again c = rw add-one (filling-more _ _ _ _ _ _ (c .before .before .before .before .before .loop .inv) (omega (arith, c .before .before .before .if1 .taken, c .before .before .before .before .before .before .halfwords .ensures)) (c .before .before .if2 .left) (c .before .item-at .result) (c .before .item-at .ensures))
 
-cast-t15 : tie.Need-cast-t15 Inv-loop μ-loop
-cast-t15 c = omega (arith, c .before .before .loop .inv .few)
+cast-t13 : tie.Need-cast-t13 Inv-loop μ-loop
+cast-t13 c = omega (arith, c .before .before .loop .inv .few)
 
 same-length-2 : tie.Need-same-length-2 Inv-loop μ-loop
 same-length-2 c = search needs
 
 returns-2 : tie.Need-returns-2 Inv-loop μ-loop
-returns-2 c = filling-all _ _ _ _ _ _ (c .before .before .loop .inv) (omega (arith, c .if1 .left))
+returns-2 c = filling-all _ _ _ _ _ _ (c .before .before .loop .inv) (omega (arith, c .if1 .left, c .before .before .before .halfwords .ensures))
 
 pub fill-spec : {M : Type 1} → statement M
 fill-spec =
@@ -59,7 +59,7 @@ fill-spec =
     (tie.spec
     Inv-loop
     μ-loop
-    cast-end
+    halfwords-requires
     loop-holds
     same-length
     returns
@@ -69,6 +69,6 @@ fill-spec =
     add-n
     loop-less
     loop-again
-    cast-t15
+    cast-t13
     same-length-2
     returns-2)

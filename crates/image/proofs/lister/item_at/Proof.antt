@@ -7,22 +7,22 @@ use Rattle.image.specs.Items.{picked, itemOf, itemAt}
 use Rattle.image.proofs.lister.item_at.Statement.{statement}
 use Rattle.image.proofs.lister.item_at.Tie as tie
 
-cast-end : tie.Need-cast-end
-cast-end c = omega (arith, c .before .before .before .pre .0 .short)
+halfwords-requires : tie.Need-halfwords-requires
+halfwords-requires c κs = c .before .before .before .pre .0 .short
 
 word-requires : tie.Need-word-requires
-word-requires c κs = omega (arith, c .before .before .before .pre .0 .short, c .before .before .before .pre .1)
+word-requires c κs = omega (arith, c .before .before .before .before .pre .0 .short, c .before .before .before .before .pre .1)
 
 pick-requires : tie.Need-pick-requires
-pick-requires c κs = c .before .before .before .before .pre .0 .usable
+pick-requires c κs = c .before .before .before .before .before .pre .0 .usable
 
 item-of-requires : tie.Need-item-of-requires
-item-of-requires c κs = (c .before .before .before .before .before .pre .1, c .before .before .before .before .before .pre .0 .short)
+item-of-requires c κs = (omega (arith, c .before .before .before .before .before .before .pre .1, c .before .before .halfwords .ensures), omega (arith, c .before .before .before .before .before .before .pre .0 .short, c .before .before .halfwords .ensures))
 
 returns : tie.Need-returns
 unfolding itemAt
-returns c = let x = c .before .before .before .before .before .before .args in
-    c .item-of .ensures ∙ ap (λ (p : Picked). itemOf p (x .a) (halfwords (x .image .now))) (c .before .pick .ensures ∙ ap (picked (tableOf (x .table .now) .entries)) (c .before .before .word .ensures))
+returns c = let x = c .before .before .before .before .before .before .before .args in
+    c .item-of .ensures ∙ ap (itemOf _ (x .a)) (c .before .before .before .halfwords .ensures) ∙ ap (λ (p : Picked). itemOf p (x .a) (halfwords (x .image .now))) (c .before .pick .ensures ∙ ap (picked (tableOf (x .table .now) .entries)) (c .before .before .word .ensures))
 
 pub item-at-spec : {M : Type 1} → statement M
-item-at-spec = tie.close (tie.spec cast-end word-requires pick-requires item-of-requires returns)
+item-at-spec = tie.close (tie.spec halfwords-requires word-requires pick-requires item-of-requires returns)
