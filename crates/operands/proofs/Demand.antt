@@ -44,10 +44,10 @@ pub inverse : (ws : List ℕ) (w : ℕ)
     → (decodeOf (readTable ws) w room ≡ result (entry-values e vs)) ↔ (encodeOf (readTable ws) e vs ≡ result w)
 inverse ws w clean room h e vs = (
   λ d. let r = decode-reads ws w room _ d in
-    let g = rw r at d in
-    rw r (decode-encode (tableOf ws) (table-good ws r) w room e vs (clean e (rw r (looked-up (tableOf ws) w room e vs g))) g),
+      let g = rw r at d in
+      rw r (decode-encode (tableOf ws) (table-good ws r) w room e vs (clean e (rw r (looked-up (tableOf ws) w room e vs g))) g),
   λ d. let r = encode-reads ws e vs w d in
-    rw r (encode-decode (tableOf ws) (table-good ws r) w room e vs h (rw r at d)),
+      rw r (encode-decode (tableOf ws) (table-good ws r) w room e vs h (rw r at d)),
 )
 
 -- a word that encoding makes has no bit below its entry's own bits
