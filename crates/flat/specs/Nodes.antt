@@ -1,9 +1,11 @@
 -- Headers and nodes of a tree in its written form, in any words ('Written form').
 use Prim.Native.Nat.{ℕ, _+_, _<_, _≤_}
 use mathlib.Core.Bool.{cond}
+use mathlib.Core.Option.{Option, none, some}
 use lib.Dec.{eqb, ltb, leb}
 use Rattle.words.specs.Tests.{_and_}
 use Rattle.words.specs.Words.{bits}
+use Rattle.words.specs.Outcome.{Outcome, result, refused}
 use Rattle.flat.specs.declared.Header.{Header}
 use Rattle.flat.specs.declared.Header.the-variants.{Bad, Good}
 use Rattle.flat.specs.declared.Node.{Node}
@@ -18,6 +20,16 @@ headerRest width n words = cond (leb 1 width and leb width 32 and leb 1 n and lt
 -- (a tree of no words has no node, so its length 0 is bad too)
 unfoldable pub headerOf : ℕ → ℕ → Header
 headerOf x words = cond (eqb (bits 31 28 x) 7 and eqb (bits 27 22 x) 0) (headerRest (bits 21 16 x) (bits 15 0 x) words) Bad
+
+-- a tree's width and its number of nodes
+pub record Shape : Type 0 where
+  pub width : ℕ
+  pub nodes : ℕ
+
+-- the paper's number and values for each case of a header
+abbrev pub saidHeader : Header → Outcome Shape
+saidHeader Bad = refused 8 0 0
+saidHeader (Good width n) = result (record { width = width; nodes = n })
 
 -- ---- nodes
 
@@ -44,6 +56,19 @@ nodeOf width n i x =
     (cond (eqb (bits 31 28 x) 9) (namesNode x)
     (cond (eqb (bits 31 28 x) 10) (nothingNode x)
     Damaged))
+
+-- what a path does at a node: "A kind 8 node is one test", of a bit, with the one side's index; kinds 9 and 10 end it, naming an entry
+-- or nothing
+pub data Turn : Type 0 where
+  tests : (bit one : ℕ) → Turn
+  ends : Option ℕ → Turn
+
+-- the paper's number and values for each case of the node at index i: "damaged node on the path": 9 with "its index"
+abbrev pub saidNode : ℕ → Node → Outcome Turn
+saidNode i Damaged = refused 9 i 0
+saidNode i (Asks b k) = result (tests b k)
+saidNode i (Names e) = result (ends (some e))
+saidNode i Nothing = result (ends none)
 
 -- ---- what the code's answers bound
 

@@ -1,20 +1,19 @@
 -- Decoding: what lookup answers decides the answer and the buffer. Assumes nothing.
 use mathlib.Core.Path.{_≡_, refl, sym, ap, _∙_}
 use mathlib.Core.List.{List, [], _∷_, _++_}
-use mathlib.Core.Bool.{Bool, true, false, cond}
 use mathlib.Core.Option.{Option, none, some}
 use Prim.Native.Nat.{ℕ, zero, suc, _+_, _^_, _≤_, _<_}
 use native.Mathlib.Nat.{zero-add}
 use native.Mathlib.Omega.{arith}
-use lib.Dec.{ltb, leb}
+use lib.Dec.{ltb}
 use lib.ListN.{length, drop}
 use lib.Seq.{sets, sets-eq}
 use borrow.Author.Tests.{le-leb, lt-leb, ltb-true}
 use Rattle.words.specs.Words.{word}
 use Rattle.words.proofs.Logic.{cases}
 use Rattle.words.specs.Outcome.{Outcome, result, faulty, refused}
-use Rattle.table.specs.Table.{Entry, Table, Field, entryNumber, tableOf, entryAt, entriesAt, entryPlace, fieldsAt, fieldsPlace, fieldsOf, countOf, widthOf}
-use Rattle.table.specs.Check.{Check, fine, fault, tableCheck, firstCheck, entryCheck, reading, readTable}
+use Rattle.table.specs.Table.{Entry, Table, entryNumber, tableOf, entryAt, entryPlace, fieldsAt, fieldsPlace, fieldsOf, countOf, widthOf}
+use Rattle.table.specs.Check.{Check, fine, fault, tableCheck, entryCheck, reading, readTable}
 use Rattle.table.proofs.Laws.{then-l, then-r, length-entries, first-short}
 use Rattle.table.proofs.Views.{entry-check, entry-at, entry-opcode, entry-few-fields}
 use Rattle.selection.specs.Selection.{Choice, names, nothing, ambiguous, select}

@@ -7,11 +7,11 @@ use lib.Bits.{bitAnd}
 use lib.Pow.{low, pow-pos}
 use Rattle.words.specs.Words.{part}
 use Rattle.words.specs.Outcome.{result}
-use Rattle.table.specs.Table.{Entry, entryNumber, tableOf, ownBits}
+use Rattle.table.specs.Table.{entryNumber, tableOf, ownBits}
 use Rattle.table.specs.Check.{fine, tableCheck, readTable}
 use Rattle.operands.specs.Calls.{encodeOf}
 use Rattle.operands.proofs.Cover.{and-run, Made, placed-taken}
-use Rattle.operands.proofs.Inverse.{Good, GoodTable, table-good, Encodes, encoded}
+use Rattle.operands.proofs.Inverse.{GoodTable, table-good, encoded}
 
 own-low : (width size w : ℕ) → bitAnd w (ownBits width size) ≡ w → w % 2 ^ (width - size) ≡ 0
 own-low width size w e =

@@ -1,20 +1,19 @@
 -- The loops of decoding and encoding. Assumes nothing.
-use mathlib.Core.Path.{_≡_, refl, sym, ap, ap₂, _∙_}
-use mathlib.Core.List.{List, [], _∷_, _++_}
-use mathlib.Core.Bool.{Bool, true, false, cond}
-use mathlib.Core.Option.{Option, none, some}
-use Prim.Native.Nat.{ℕ, zero, suc, _+_, _-_, _*_, _/_, _%_, _^_, _≤_, _<_}
+use mathlib.Core.Path.{_≡_, refl}
+use mathlib.Core.List.{List, _∷_}
+use mathlib.Core.Bool.{true, false}
+use Prim.Native.Nat.{ℕ, zero, suc, _+_, _-_, _*_, _%_, _^_, _≤_, _<_}
 use native.Mathlib.Omega.{arith}
 use native.Mathlib.Numerals.{sub-one, add-one}
 use lib.Bits.{bitOr}
 use lib.Dec.{ltb}
-use lib.ListN.{length, getD, set, take, drop}
+use lib.ListN.{length, getD, set, drop}
 use lib.Pow.{shl-exact}
-use lib.Seq.{sets, sets-eq, take-at, drop-cons, drop-length}
+use lib.Seq.{sets, drop-cons}
 use Rattle.words.specs.Words.{word, part}
-use Rattle.table.specs.Table.{Field, fieldAt, fieldsAt, fieldLow, fieldWidth}
-use Rattle.operands.specs.Fields.{valueIn, valuesIn, placed, misfit}
-use Rattle.operands.specs.Answers.{InWord, Made, word-made, misfit-at, madeOr, makes}
+use Rattle.table.specs.Table.{fieldAt, fieldsAt, fieldLow, fieldWidth}
+use Rattle.operands.specs.Fields.{valuesIn, placed, misfit}
+use Rattle.operands.specs.Answers.{InWord, word-made, misfit-at, makes}
 
 module _ (ws : List ℕ) (w : ℕ) where
   -- one more value written

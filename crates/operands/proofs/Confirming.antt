@@ -1,25 +1,25 @@
 -- Encoding: from the word made to the answer. Assumes nothing.
 use mathlib.Core.Path.{_≡_, refl, sym, ap, _∙_}
 use mathlib.Core.List.{List}
-use mathlib.Core.Bool.{Bool, true, false, cond}
+use mathlib.Core.Bool.{true, cond}
 use mathlib.Core.Option.{Option, none, some}
 use Prim.Native.Nat.{ℕ, zero, suc, _+_, _^_, _≤_, _<_}
 use native.Mathlib.Omega.{arith}
-use lib.Dec.{ltb, eqb}
+use lib.Dec.{eqb}
 use lib.ListN.{length}
 use borrow.Author.Tests.{eq-eqb, ne-eqb, lt-ltb, le-ltb}
 use Rattle.words.specs.Tests.{_and_}
 use Rattle.words.specs.Words.{word}
 use Rattle.words.specs.Outcome.{Outcome, result, faulty, refused}
-use Rattle.table.specs.Table.{Entry, Table, Field, entryNumber, tableOf, entryAt, fieldsAt, fieldsOf, sizeOf, countOf, widthOf, ownBits}
-use Rattle.table.specs.Check.{fine, tableCheck, firstCheck, entryCheck, fieldsCheck, readTable}
+use Rattle.table.specs.Table.{Entry, Table, Field, entryNumber, tableOf, fieldsAt, fieldsOf, sizeOf, countOf, widthOf}
+use Rattle.table.specs.Check.{fine, tableCheck, fieldsCheck, readTable}
 use Rattle.table.proofs.Laws.{then-l, then-r, length-entries, first-width, field-some, field-below}
 use Rattle.table.proofs.Views.{entry-field-check}
 use Rattle.selection.specs.Selection.{Choice, names, nothing, ambiguous, select}
 use Rattle.selection.specs.Lookup.{lookedUp, lookOf}
 use Rattle.operands.specs.Fields.{placed, misfit}
 use Rattle.operands.specs.Calls.{selects, encodedAs, encodedFrom, encodeOf}
-use Rattle.operands.specs.Answers.{InWord, Made, word-made, misfit-at, madeOr, makes, confirmed, madeFor}
+use Rattle.operands.specs.Answers.{InWord, word-made, misfit-at, madeOr, makes, confirmed, madeFor}
 use Rattle.operands.proofs.Cover.{placed-taken}
 use Rattle.operands.proofs.Inverse.{Good, entry-good, own-lt}
 use Rattle.operands.proofs.Answering.{Stands, length-fields}

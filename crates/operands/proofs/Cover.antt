@@ -3,21 +3,20 @@ use mathlib.Core.Path.{_≡_, refl, sym, ap, ap₂, _∙_}
 use mathlib.Core.List.{List, [], _∷_}
 use mathlib.Core.Bool.{Bool, true, false, cond}
 use mathlib.Core.Option.{Option, none, some}
-use Prim.Native.Nat.{ℕ, zero, suc, _+_, _-_, _*_, _/_, _%_, _^_, _≤_, _<_}
-use native.Mathlib.Nat.{mod-lt, mod-eq-of-lt}
+use Prim.Native.Nat.{ℕ, zero, suc, _+_, _*_, _/_, _^_, _<_}
+use native.Mathlib.Nat.{mod-eq-of-lt}
 use native.Mathlib.Omega.{arith}
-use lib.Bits.{bitAnd, bitOr, and-comm, and-self, or-zero-l, or-zero-r, and-high, and-zero-r, and-zero-l}
-use lib.Dec.{ltb, eqb}
+use lib.Bits.{bitAnd, bitOr, and-comm, and-self, or-zero-l, or-zero-r, and-high, and-zero-r}
+use lib.Dec.{ltb}
 use lib.ListN.{length}
-use lib.Pow.{high-ones, shl-shr, pow-pos}
-use borrow.Author.Tests.{ltb-true, lt-ltb, eqb-true}
+use lib.Pow.{high-ones, shl-shr}
+use borrow.Author.Tests.{ltb-true, eqb-true}
 use Rattle.words.proofs.Bits.{and-assoc, and-or}
-use Rattle.words.proofs.Logic.{cases}
-use Rattle.words.specs.Words.{word, part, run}
+use Rattle.words.specs.Words.{part, run}
 use Rattle.table.specs.Table.{Field, fieldsAt, fieldBits, ownBits}
 use Rattle.table.specs.Check.{fine, fieldsCheck, fieldCheck, fieldRule}
 use Rattle.table.proofs.Laws.{then-l, then-r, need-true}
-use Rattle.operands.specs.Fields.{valueIn, valuesIn, placed, misfit}
+use Rattle.operands.specs.Fields.{valuesIn, placed, misfit}
 
 -- the bits of a field
 abbrev pub bitsOf : Field → ℕ

@@ -1,7 +1,7 @@
 -- Demand 2, over the definitions that the calls' contracts cite. Assumes nothing.
 --   `selection::lookup` answers `lookOf (readTable ws) w`, `operands::decode` answers `decodeOf (readTable ws) w room`,
 --   `operands::encode` answers `encodeOf (readTable ws) e vs`, for every list of words ws and every w, room, e and vs.
-use mathlib.Core.Path.{_≡_, refl, sym, ap, _∙_}
+use mathlib.Core.Path.{_≡_}
 use mathlib.Core.Logic.{_↔_}
 use mathlib.Core.List.{List}
 use mathlib.Core.Option.{none, some}
@@ -9,7 +9,6 @@ use Prim.Native.Nat.{ℕ, _-_, _%_, _^_, _≤_, _<_}
 use Rattle.words.specs.Outcome.{result, refused}
 use Rattle.table.specs.Table.{Entry, entryNumber, tableOf}
 use Rattle.table.specs.Check.{fine, tableCheck, readTable}
-use Rattle.selection.specs.Selection.{names, select}
 use Rattle.selection.specs.Lookup.{lookOf}
 use Rattle.selection.proofs.Formula.{Selects, Claimed, Unclaimed}
 use Rattle.operands.specs.Calls.{entry-values, decodeOf, encodeOf}

@@ -1,30 +1,30 @@
 -- Demand 2: decoding and encoding are each other's inverse. Assumes nothing.
-use mathlib.Core.Path.{_≡_, refl, sym, ap, ap₂, _∙_}
+use mathlib.Core.Path.{_≡_, refl, sym, ap, _∙_}
 use mathlib.Core.List.{List, [], _∷_}
-use mathlib.Core.Bool.{Bool, true, false, cond, not}
+use mathlib.Core.Bool.{true}
 use mathlib.Core.Option.{Option, none, some}
-use Prim.Native.Nat.{ℕ, zero, suc, _+_, _-_, _*_, _/_, _%_, _^_, _≤_, _<_}
-use native.Mathlib.Nat.{mod-lt, add-zero, add-comm}
+use Prim.Native.Nat.{ℕ, suc, _+_, _-_, _*_, _/_, _%_, _^_, _≤_, _<_}
+use native.Mathlib.Nat.{add-zero}
 use native.Mathlib.Omega.{arith}
 use lib.Bits.{bitAnd, and-le-r, and-comm}
 use lib.Dec.{ltb, leb, eqb}
 use lib.ListN.{length}
-use lib.Pow.{pow-pos, recompose, shl-lt, ones-lt}
+use lib.Pow.{recompose}
 use borrow.Author.Tests.{ltb-true, lt-ltb, eqb-true, eq-eqb, leb-true, le-leb}
-use Rattle.words.specs.Tests.{_and_, first, exists}
+use Rattle.words.specs.Tests.{_and_}
 use Rattle.words.proofs.Bits.{includes-true}
 use Rattle.words.proofs.Parts.{part-lt, run-lt}
 use Rattle.words.proofs.Logic.{cases, and-l, and-r, and-i, first-some}
-use Rattle.words.specs.Words.{word, part, run, includes}
-use Rattle.table.specs.Table.{Entry, Table, Field, entryNumber, tableOf, ownBits, entriesAt, entryAt, entryPlace, countOf, widthOf, sizeOf, fieldsOf}
-use Rattle.words.specs.Outcome.{Outcome, result, faulty, refused}
-use Rattle.table.specs.Check.{Check, fine, fault, tableCheck, entryCheck, patternCheck, reading, readTable, entriesCheck}
+use Rattle.words.specs.Words.{word, part}
+use Rattle.table.specs.Table.{Entry, Table, Field, entryNumber, tableOf, ownBits, entryAt, countOf, widthOf, sizeOf, fieldsOf}
+use Rattle.words.specs.Outcome.{result}
+use Rattle.table.specs.Check.{Check, fine, fault, tableCheck, entryCheck, patternCheck, reading, readTable}
 use Rattle.table.proofs.Laws.{then-l, then-r, need-true, head-below, length-entries}
 use Rattle.table.proofs.Views.{entry-check, entry-at}
 use Rattle.selection.proofs.Judging.{choice-names}
-use Rattle.selection.specs.Lookup.{lookedUp, lookOf}
-use Rattle.selection.specs.Selection.{Choice, names, nothing, ambiguous, choiceOf, select, judge, beats, claims, matches}
-use Rattle.operands.specs.Fields.{valueIn, valuesIn, placed, misfit}
+use Rattle.selection.specs.Lookup.{lookOf}
+use Rattle.selection.specs.Selection.{Choice, names, nothing, ambiguous, select, judge, beats, claims, matches}
+use Rattle.operands.specs.Fields.{valuesIn, placed, misfit}
 use Rattle.operands.specs.Calls.{Decoded, entry-values, decodedAs, decodeOf, selects, encodedAs, encodedFrom, encodeOf}
 use Rattle.operands.proofs.Cover.{Covered, covered, and-run, taken-placed, Made, placed-taken}
 

@@ -2,13 +2,12 @@
 use mathlib.Core.Path.{_≡_, refl, sym, ap, _∙_}
 use mathlib.Core.Logic.{_↔_}
 use mathlib.Core.List.{List}
-use mathlib.Core.Option.{Option, none, some}
+use mathlib.Core.Option.{none, some}
 use Prim.Native.Nat.{ℕ, _^_, _<_}
 use native.Mathlib.Omega.{arith}
-use lib.Dec.{ltb}
 use borrow.Author.Tests.{lt-ltb}
-use Rattle.words.specs.Outcome.{Outcome, result, refused}
-use Rattle.table.specs.Table.{Entry, tableOf}
+use Rattle.words.specs.Outcome.{result, refused}
+use Rattle.table.specs.Table.{tableOf}
 use Rattle.table.specs.Check.{fine, tableCheck, readTable}
 use Rattle.selection.specs.Selection.{Choice, names, nothing, ambiguous, select}
 use Rattle.selection.specs.Lookup.{lookedUp, lookOf}

@@ -1,18 +1,14 @@
 -- The place of a fault is at most the table's length. Assumes nothing.
 use mathlib.Core.Path.{_≡_, refl}
-use mathlib.Core.Bool.{Bool, true, false, true≢false}
+use mathlib.Core.Bool.{Bool, true, false}
 use mathlib.Core.List.{List}
 use Prim.Native.Nat.{ℕ, zero, suc, _+_, _≤_, zero-le}
 use native.Mathlib.Omega.{arith}
 use lib.ListN.{length}
 use borrow.Author.Tests.{leb-false}
-use Rattle.words.specs.Words.{word}
 use Rattle.table.specs.Table.{conditionEnd, entryEnd}
 use Rattle.table.specs.Check.{Check, fine, fault, _then_, need, has, patternCheck, unmatchingCheck, unmatchingsCheck, conditionCheck, conditionsCheck, fieldRule, fieldCheck, fieldsCheck, headCheck, entryCheck, entriesCheck, firstCheck, tableCheck}
-use Rattle.table.specs.Answer.{step}
-use Rattle.table.specs.declared.Step.{Step}
-use Rattle.table.specs.declared.Step.the-variants.{Next, Fault}
-use Rattle.table.proofs.Laws.{then-l, then-r, has-fits, head-fits, fault-is}
+use Rattle.table.proofs.Laws.{has-fits, head-fits}
 
 -- no fault, or one whose place is at most n
 unfoldable pub Near : ℕ → Check → Type 0

@@ -1,15 +1,15 @@
 -- The definition of reading, computed on the example tables of document 01 and on the smallest table for each fault. Assumes nothing.
-use mathlib.Core.Path.{_≡_, refl, ap}
+use mathlib.Core.Path.{_≡_, refl}
 use mathlib.Core.List.{List, [], _∷_, _++_, map}
 use Prim.Native.Nat.{ℕ, _<_}
 use native.Mathlib.Omega.{arith}
-use lib.ListN.{length, replicate}
+use lib.ListN.{length}
 use borrow.Author.Tests.{le-leb, lt-leb}
 use Rattle.words.specs.Words.{part, run, includes}
 use Rattle.words.specs.Outcome.{Outcome, result, faulty}
 use Rattle.table.specs.Table.{Pattern, Field, Condition, Entry, Table, fieldBits, fieldsAt, unmatchingAt, conditionsAt, conditionsEnd, entriesAt}
-use Rattle.table.specs.Check.{Check, fault, _then_, need, patternCheck, unmatchingCheck, unmatchingsCheck, conditionCheck, conditionsCheck, fieldRule, fieldCheck, fieldsCheck, headCheck, entryCheck, entriesCheck, firstCheck, tableCheck, readTable}
-use Rattle.table.specs.Answer.{Shape, shapeOf}
+use Rattle.table.specs.Check.{_then_, need, patternCheck, unmatchingCheck, unmatchingsCheck, conditionCheck, conditionsCheck, fieldRule, fieldCheck, fieldsCheck, headCheck, entryCheck, entriesCheck, firstCheck, tableCheck, readTable}
+use Rattle.table.specs.Answer.{shapeOf}
 use Rattle.table.specs.Worked.{printed, worked}
 use Rattle.table.proofs.Laws.{checks}
 

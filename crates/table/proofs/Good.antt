@@ -5,14 +5,14 @@ use mathlib.Core.Bool.{Bool, true}
 use mathlib.Core.List.{List}
 use Prim.Native.Nat.{ℕ, zero, suc, _+_, _-_, _≤_, _<_, _^_}
 use native.Mathlib.Omega.{arith}
-use borrow.Author.Tests.{leb-true, lt-ltb}
+use borrow.Author.Tests.{lt-ltb}
 use Rattle.words.specs.Words.{word, includes}
 use Rattle.words.specs.Tests.{_and_, allOf}
 use Rattle.words.proofs.Logic.{and-i}
 use Rattle.words.proofs.Bits.{includes-le}
 use Rattle.words.proofs.Parts.{run-lt}
 use Rattle.table.specs.Table.{Entry, Condition, Pattern, patternAt, unmatchingAt, conditionAt, conditionsAt, conditionEnd, sizeOf, opcodePlace, entryAt, entryEnd, entriesAt, ownBits, tableOf}
-use Rattle.table.specs.Check.{fine, patternCheck, unmatchingCheck, unmatchingsCheck, conditionCheck, conditionsCheck, headCheck, entryCheck, entriesCheck, tableCheck}
+use Rattle.table.specs.Check.{fine, patternCheck, unmatchingCheck, unmatchingsCheck, conditionCheck, conditionsCheck, entryCheck, entriesCheck, tableCheck}
 use Rattle.table.specs.Lawful.{goodPattern, goodCondition, goodEntry, goodTable, ownPattern, ownCondition, ownEntry}
 use Rattle.table.proofs.Laws.{then-l, then-r, need-true, head-below}
 

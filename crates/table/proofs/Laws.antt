@@ -1,5 +1,5 @@
 -- Laws of the reader's definitions: how a check computes, loops over items, what a check without fault shows. Assumes nothing.
-use mathlib.Core.Path.{_≡_, refl, sym, ap, ap₂, _∙_}
+use mathlib.Core.Path.{_≡_, refl, sym, ap, _∙_}
 use mathlib.Core.List.{List}
 use mathlib.Core.Bool.{Bool, true, false, cond}
 use Prim.Native.Nat.{ℕ, zero, suc, _+_, _-_, _*_, _≤_, _<_}
@@ -7,17 +7,17 @@ use native.Mathlib.Nat.{add-zero, eq-or-lt-of-le}
 use mathlib.Core.Logic.{⊎-elim}
 use native.Mathlib.Numerals.{sub-one, add-one}
 use native.Mathlib.Omega.{arith}
-use lib.Bits.{bitAnd, bitOr}
+use lib.Bits.{bitOr}
 use lib.Dec.{eqb, leb, ltb}
 use lib.ListN.{length, getD, set}
 use lib.Seq.{getD-set-same, getD-set-other}
 use borrow.Author.Tests.{eqb-true, eqb-false, ltb-true, ltb-false, leb-true, lt-leb, le-leb, lt-ltb, le-ltb}
-use Rattle.words.specs.Words.{word, run}
+use Rattle.words.specs.Words.{word}
 use Rattle.words.proofs.Logic.{cases}
-use Rattle.words.specs.Outcome.{Outcome, result, faulty}
-use Rattle.table.specs.Table.{Table, fieldLow, fieldWidth, fieldBits, ownBits, sizeOf, fieldsOf, conditionsOf, conditionEnd, conditionsEnd, entryEnd, entryPlace, entriesAt, countOf, widthOf}
+use Rattle.words.specs.Outcome.{result, faulty}
+use Rattle.table.specs.Table.{fieldLow, fieldWidth, fieldBits, ownBits, sizeOf, fieldsOf, conditionsOf, conditionEnd, conditionsEnd, entryEnd, entryPlace, entriesAt, countOf, widthOf}
 use Rattle.table.specs.Check.{Check, fine, fault, _then_, need, has, patternCheck, unmatchingCheck, unmatchingsCheck, conditionCheck, conditionsCheck, fieldRule, fieldCheck, fieldsCheck, headCheck, entryCheck, entriesCheck, firstCheck, tableCheck, readTable}
-use Rattle.table.specs.Answer.{step, Shape, shapeOf, placeOf, Placed}
+use Rattle.table.specs.Answer.{step, shapeOf, placeOf, Placed}
 use Rattle.table.specs.declared.Step.{Step}
 use Rattle.table.specs.declared.Step.the-variants.{Next, Fault}
 

@@ -1,22 +1,21 @@
 -- What callers rely on, of a table without fault: from a place and a count, the item at hand and the rest. Assumes nothing.
 use mathlib.Core.Path.{_≡_, refl, sym, ap, _∙_}
 use mathlib.Core.List.{List}
-use mathlib.Core.Bool.{cond}
-use Prim.Native.Nat.{ℕ, zero, suc, _+_, _-_, _*_, _≤_, _<_}
+use Prim.Native.Nat.{ℕ, zero, suc, _+_, _-_, _≤_, _<_}
 use native.Mathlib.Nat.{add-zero, zero-add}
 use native.Mathlib.Numerals.{sub-one}
 use native.Mathlib.Omega.{arith}
 use lib.ListN.{length, getD}
 use borrow.Author.Tests.{leb-true, lt-ltb}
 use Rattle.words.specs.Words.{word}
-use Rattle.words.specs.Outcome.{Outcome, result, faulty}
-use Rattle.table.specs.Table.{Table, Entry, widthOf, countOf, sizeOf, fieldsOf, conditionsOf, unmatchingOf, conditionEnd, opcodePlace, fieldsPlace, conditionsPlace, entryAt, entriesAt, entryEnd, entryPlace, tableOf, ownBits}
-use Rattle.table.specs.Check.{Check, fine, fault, reading, readTable, tableCheck, firstCheck, unmatchingsCheck, conditionCheck, conditionsCheck, fieldsCheck, headCheck, patternCheck, entryCheck, entriesCheck}
+use Rattle.words.specs.Outcome.{result, faulty}
+use Rattle.table.specs.Table.{Table, Entry, widthOf, countOf, sizeOf, fieldsOf, conditionsOf, unmatchingOf, conditionEnd, opcodePlace, fieldsPlace, conditionsPlace, entryAt, entriesAt, entryPlace, tableOf, ownBits}
+use Rattle.table.specs.Check.{Check, fine, fault, reading, readTable, tableCheck, firstCheck, unmatchingsCheck, conditionCheck, conditionsCheck, fieldsCheck, headCheck, entryCheck, entriesCheck}
 use Rattle.table.specs.Ready.{Ready}
-use Rattle.table.specs.Answer.{Shape, shapeOf, placeOf, said, Reads}
+use Rattle.table.specs.Answer.{Shape, shapeOf, said, Reads}
 use Rattle.table.specs.declared.Answer.the-variants.{Accepted, Refused}
 use Rattle.table.specs.declared.Reading.{Reading}
-use Rattle.table.proofs.Laws.{then-l, then-r, need-true, pattern-fits, unmatching-fits, fields-fit, head-fits, first-some, first-short, first-count, first-wide, first-width, length-entries, accepts-places, accepts}
+use Rattle.table.proofs.Laws.{then-l, then-r, need-true, pattern-fits, unmatching-fits, fields-fit, head-fits, first-some, first-short, first-count, first-wide, first-width, accepts-places, accepts}
 
 -- ---- patterns and conditions, one by one
 

@@ -5,7 +5,7 @@ use mathlib.Core.List.{List}
 use lib.Bits.{bitAnd, bitOr}
 use lib.Dec.{eqb, leb}
 use lib.ListN.{length}
-use Rattle.words.specs.Words.{word, bits, run, includes}
+use Rattle.words.specs.Words.{word, bits, includes}
 use Rattle.words.specs.Outcome.{Outcome, result, faulty}
 use Rattle.table.specs.Table.{Table, kindOf, countOf, widthOf, sizeOf, fieldsOf, conditionsOf, unmatchingOf, fieldLow, fieldWidth, fieldBits, conditionEnd, opcodePlace, fieldsPlace, conditionsPlace, entryEnd, tableOf, ownBits}
 

@@ -10,7 +10,7 @@ use native.Mathlib.Omega.{arith}
 use mathlib.Core.Path.{_≡_, refl, sym, ap, _∙_, subst}
 use mathlib.Core.Bool.{Bool, true, false, not, false≢true}
 use mathlib.Core.List.{List, [], _∷_, _++_, append-assoc}
-use mathlib.Core.Option.{Option, none, some}
+use mathlib.Core.Option.{Option, none, some, orElse}
 use lib.Bits.{and-zero-r}
 use lib.Dec.{eqb, ltb, leb}
 use lib.ListN.{length, length-append, take}
@@ -18,7 +18,7 @@ use lib.Seq.{getD-at}
 use borrow.Author.Tests.{eq-eqb, eqb-true, ltb-true, leb-true, lt-ltb}
 use Rattle.words.specs.Tests.{_and_, exists}
 use Rattle.words.specs.Words.{word, bit, bits}
-use Rattle.words.proofs.Logic.{cases, and-i, and-l, and-r, not-t, not-it, howMany-le}
+use Rattle.words.proofs.Logic.{cases, and-i, and-l, and-r, not-t, howMany-le}
 use Rattle.words.proofs.Parts.{part-lt}
 use Rattle.table.specs.Lawful.{goodTable}
 use Rattle.table.specs.Table.{Entry, Table, entryNumber}
@@ -26,14 +26,14 @@ use Rattle.table.specs.Check.{readTable}
 use Rattle.words.specs.Outcome.{result}
 use Rattle.selection.specs.Selection.{Choice, names, nothing, ambiguous, claims, judge, select}
 use Rattle.selection.proofs.Judging.{answers, judge-names, judge-nothing}
-use Rattle.flat.specs.Nodes.{headerOf, headerRest, nodeOf, testNode, namesNode, nothingNode}
+use Rattle.flat.specs.Nodes.{headerOf, nodeOf, testNode, namesNode, nothingNode}
 use Rattle.flat.specs.declared.Header.{Header}
 use Rattle.flat.specs.declared.Header.the-variants.{Bad, Good}
 use Rattle.flat.specs.declared.Node.{Node}
 use Rattle.flat.specs.declared.Node.the-variants.{Damaged, Asks, Names, Nothing}
 use Rattle.cell.specs.Cell.{Cell, start, zeroSide, oneSide, live, sure, openEntry}
 use Rattle.cell.specs.Step.{free, tested, step}
-use Rattle.tree.specs.Tree.{Tree, leaf, test, treeOf, below, tree, size, answer, asked, conflict, orElse, ifConflict}
+use Rattle.tree.specs.Tree.{Tree, leaf, test, below, tree, size, answer, asked, conflict, ifConflict}
 use Rattle.tree.specs.Written.{testWord, leafWord, headerWord, nodes, written}
 use Rattle.tree.specs.Walk.{arrives, after, named, path, enters, walkOf}
 use Rattle.tree.specs.Checker.{settled, isStepOne, isStepTwo, provided, meeting, checkFrom, checkBelow, endsAt, acceptsBy, accepts, checkOf}
@@ -370,6 +370,7 @@ module _ (es : List Entry) (width : ℕ) (some-width : 1 ≤ width) (narrow : wi
 -- ---- the tree of a table
 
 or-none : (x y : Option ℕ) → orElse x y ≡ none → (x ≡ none) × (y ≡ none)
+unfolding orElse
 or-none none y e = (refl, e)
 or-none (some w) y e = (cc, cc)
 

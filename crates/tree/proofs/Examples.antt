@@ -2,7 +2,7 @@
 use Prim.Native.Nat.{ℕ}
 use mathlib.Core.Path.{_≡_, refl}
 use mathlib.Core.List.{List, [], _∷_}
-use mathlib.Core.Option.{Option, none, some}
+use mathlib.Core.Option.{Option, none, some, orElse}
 use lib.ListN.{replicate}
 use Rattle.words.specs.Tests.{_and_, _or_, allOf, anyOf, every, exists, howMany, first, best}
 use Rattle.words.specs.Words.{part, bit, includes}
@@ -23,7 +23,7 @@ use Rattle.tree.specs.Checker.{isStepOne, isStepTwo, checkFrom, checkBel
 
 -- a tree and its first conflict, with every definition open
 unfoldable grown : List Entry → ℕ → Option ℕ
-unfolding conflict size tree below free treeOf step tested wanted inOpen inCondition votes openEntry sure live dead openCondition fails holds clashes implies matches judge beats moreSpecific first exists every howMany best anyOf allOf bit _and_ _or_ includes
+unfolding conflict size tree below free treeOf step tested wanted inOpen inCondition votes openEntry sure live dead openCondition fails holds clashes implies matches judge beats moreSpecific first exists every howMany best anyOf allOf bit _and_ _or_ includes orElse
 grown es width = conflict start (tree es width)
 
 -- an entry without conditions

@@ -1,27 +1,25 @@
 -- What generating answers and leaves, from what the maker says of the whole tree. Assumes nothing.
 use mathlib.Core.Path.{_≡_, refl, sym, ap, _∙_}
-use mathlib.Core.Bool.{Bool, true, false}
-use mathlib.Core.List.{List, [], _∷_, _++_}
+use mathlib.Core.Bool.{true, false}
+use mathlib.Core.List.{List, _∷_, _++_}
 use mathlib.Core.Option.{Option, none, some}
 use Prim.Native.Nat.{ℕ, suc, _+_, _-_, _≤_, _<_, min}
 use native.Mathlib.Nat.{zero-add}
 use native.Mathlib.Omega.{arith}
-use lib.Dec.{leb}
 use lib.ListN.{length, set, drop, replicate}
-use lib.Seq.{sets, sets-eq}
-use borrow.Author.Tests.{leb-true, leb-false, le-leb, lt-leb}
-use Rattle.words.specs.Tests.{_and_}
+use lib.Seq.{sets-eq}
+use borrow.Author.Tests.{leb-true, le-leb}
 use Rattle.words.proofs.Logic.{and-i, and-l, and-r, isFalse}
 use Rattle.words.proofs.Lists.{set-sets}
-use Rattle.words.specs.Outcome.{Outcome, result, faulty, refused}
+use Rattle.words.specs.Outcome.{result, faulty, refused}
 use Rattle.table.specs.Table.{Entry, Table, entriesAt}
 use Rattle.table.specs.Check.{readTable}
 use Rattle.table.specs.Ready.{Ready}
 use Rattle.table.proofs.Views.{ready-read}
-use Rattle.cell.specs.Cell.{Cell, start}
+use Rattle.cell.specs.Cell.{start}
 use Rattle.tree.specs.Tree.{Tree, tree, below, size, conflict}
 use Rattle.tree.specs.Written.{headerWord, nodes, written}
-use Rattle.tree.specs.Generate.{fits, judged, generateOf, leftBy, bufferOf, said, tableWith, WritesTree, Generates, firstOf, Written, Making}
+use Rattle.tree.specs.Generate.{fits, judged, generateOf, leftBy, bufferOf, tableWith, WritesTree, Generates, firstOf, Written, Making}
 use Rattle.tree.specs.declared.First.{First}
 use Rattle.tree.specs.declared.First.the-variants.{Clean, Clash}
 use Rattle.tree.specs.declared.Made.{Made}

@@ -1,7 +1,7 @@
 -- What the makers say of a cell's tree, from what their calls say. Assumes nothing.
-use mathlib.Core.Path.{_≡_, refl, sym, ap, _∙_, subst}
+use mathlib.Core.Path.{_≡_}
 use mathlib.Core.List.{List}
-use Prim.Native.Nat.{ℕ, suc, _+_, _≤_, _<_, _^_}
+use Prim.Native.Nat.{ℕ, _+_, _≤_, _<_, _^_}
 use mathlib.Core.Bool.{false}
 use native.Mathlib.Omega.{arith}
 use lib.Bits.{bitOr}
@@ -11,12 +11,11 @@ use Rattle.table.specs.Table.{Entry}
 use Rattle.selection.specs.Selection.{Choice}
 use Rattle.cell.specs.Cell.{Cell, zeroSide, oneSide}
 use Rattle.cell.specs.Step.{free}
-use Rattle.tree.specs.Tree.{Tree, leaf, test, size, below, ifConflict}
-use Rattle.tree.specs.Written.{leafWord, testWord, nodes}
+use Rattle.tree.specs.Tree.{Tree, leaf, size, below, ifConflict}
+use Rattle.tree.specs.Written.{leafWord, testWord}
 use Rattle.cell.specs.Decide.{cell}
 use Rattle.tree.specs.Generate.{firstOf, orFirst, Written, Making, splitOf}
 use Rattle.tree.specs.declared.First.{First}
-use Rattle.tree.specs.declared.First.the-variants.{Clean, Clash}
 use Rattle.tree.specs.declared.Made.{Made}
 use Rattle.tree.specs.declared.Made.the-variants.{Full, Wrote}
 use Rattle.cell.proofs.Cells.{free-less}

@@ -6,19 +6,19 @@ use mathlib.Core.Path.{_≡_, refl, sym, ap, ap₂, _∙_, subst}
 use mathlib.Core.Bool.{true, false, not, false≢true}
 use borrow.Author.Tests.{eqb-true}
 use mathlib.Core.List.{List, [], _∷_}
-use mathlib.Core.Option.{Option, none, some}
+use mathlib.Core.Option.{Option, none, some, orElse}
 use lib.Bits.{bitAnd, bitOr, and-comm, or-lt, and-zero-r, or-zero-r}
 use lib.Dec.{eqb}
 use lib.Pow.{pow-lt, pow-pos}
 use lib.ListN.{length}
-use Rattle.words.specs.Tests.{_and_, _or_, exists}
+use Rattle.words.specs.Tests.{_or_, exists}
 use Rattle.words.specs.Words.{bit}
 use Rattle.table.specs.Lawful.{goodTable}
 use Rattle.table.specs.Table.{Entry, entryNumber}
 use Rattle.selection.specs.Selection.{Choice, names, nothing, ambiguous, claims, judge, select}
 use Rattle.cell.specs.Cell.{Cell, start, zeroSide, oneSide, live, sure, openEntry}
 use Rattle.cell.specs.Step.{Step, end, split, free, tested, step}
-use Rattle.tree.specs.Tree.{Tree, leaf, test, treeOf, below, tree, answer, asked, isIn, distinct, conflict, orElse, ifConflict}
+use Rattle.tree.specs.Tree.{Tree, leaf, test, treeOf, below, tree, answer, asked, isIn, distinct, conflict, ifConflict}
 use Rattle.words.proofs.Bits.{bit-and, bit-or, bit-pow, and-or, and-pow}
 use Rattle.words.proofs.Logic.{cases, options, clash, isFalse, same, and-i, and-r, or-l, or-ir, or-e, not-it, exists-none, howMany-le}
 use Rattle.selection.proofs.Judging.{answers, judge-names, judge-nothing, judge-same}
@@ -144,7 +144,7 @@ module _ (es : List Entry) (width : ℕ) (good : goodTable width es ≡ true) wh
     -- the word of a first conflict is ambiguous, if the cell's own bits are in it
     pub conflict-right : In c (c .bits) → c .bits < 2 ^ width → (w : ℕ) → conflict c (treeOf es width n c) ≡ some w
         → (select es w ≡ ambiguous) × (w < 2 ^ width)
-    unfolding conflict
+    unfolding conflict orElse
     conflict-right =
         induct (λ c t. In c (c .bits) → c .bits < 2 ^ width → (w : ℕ) → conflict c t ≡ some w → (select es w ≡ ambiguous) × (w < 2 ^ width))
         (λ c a e h b w k. onLeaf c a (leaf-right c a e (c .bits) h) b w k)
@@ -162,7 +162,7 @@ module _ (es : List Entry) (width : ℕ) (good : goodTable width es ≡ true) wh
 
 -- a walk that ends in a conflict: the tree has a first conflict
 pub conflict-found : (t : Tree) (c : Cell) (w : ℕ) → answer t w ≡ ambiguous → (x : ℕ) × (conflict c t ≡ some x)
-unfolding answer conflict
+unfolding answer conflict orElse
 conflict-found (leaf a) c w e = (c .bits, rw e)
 conflict-found (test i l r) c w e =
     options (conflict (zeroSide c i) l)

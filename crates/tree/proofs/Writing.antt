@@ -1,20 +1,19 @@
 -- Laws of the written form, and what a maker says of a tree from what it says of its sides. Assumes nothing.
 use mathlib.Core.Path.{_≡_, refl, sym, ap, ap₂, _∙_}
-use mathlib.Core.List.{List, [], _∷_, _++_}
-use mathlib.Core.Option.{Option, none, some}
-use Prim.Native.Nat.{ℕ, zero, suc, _+_, _≤_, _<_}
+use mathlib.Core.List.{List, _∷_, _++_}
+use mathlib.Core.Option.{Option, none, some, orElse}
+use Prim.Native.Nat.{ℕ, _+_, _<_}
 use native.Mathlib.Numerals.{add-one}
 use native.Mathlib.Omega.{arith}
 use lib.ListN.{length, set, length-append}
 use lib.Seq.{sets}
 use Rattle.words.proofs.Lists.{sets-append, set-sets}
-use Rattle.selection.specs.Selection.{Choice, names, nothing, ambiguous}
+use Rattle.selection.specs.Selection.{Choice, nothing, ambiguous}
 use Rattle.cell.specs.Cell.{Cell, zeroSide, oneSide}
-use Rattle.tree.specs.Tree.{Tree, leaf, test, size, conflict, ifConflict, orElse}
+use Rattle.tree.specs.Tree.{Tree, leaf, test, size, conflict, ifConflict}
 use Rattle.tree.specs.Written.{leafWord, testWord, nodes}
 use Rattle.tree.specs.Generate.{firstOf, orFirst, Written}
 use Rattle.tree.specs.declared.First.{First}
-use Rattle.tree.specs.declared.First.the-variants.{Clean, Clash}
 
 -- a tree has as many words as nodes
 pub length-nodes : (t : Tree) (i : ℕ) → length (nodes i t) ≡ size t
@@ -50,7 +49,7 @@ node-sides out at w k ws vs e =
 
 -- the first conflict of two sides
 first-or : (x y : Option ℕ) → orFirst (firstOf x) (firstOf y) ≡ firstOf (orElse x y)
-unfolding orFirst
+unfolding orFirst orElse
 first-or none y = refl
 first-or (some w) y = refl
 

@@ -1,5 +1,5 @@
 -- A walk by what its header says. Assumes nothing.
-use Prim.Native.Nat.{ℕ, _/_, _%_, _^_}
+use Prim.Native.Nat.{ℕ, _%_, _^_}
 use mathlib.Core.Path.{_≡_, sym, ap, _∙_}
 use mathlib.Core.Bool.{true, false}
 use mathlib.Core.List.{List}
@@ -8,23 +8,22 @@ use lib.ListN.{length}
 use borrow.Author.Tests.{eq-eqb, ne-eqb}
 use Rattle.words.specs.Words.{word}
 use Rattle.words.specs.Bytes.{wordsOf}
-use Rattle.words.proofs.Bytes.{words-length}
-use Rattle.words.specs.Outcome.{Outcome, refused}
-use Rattle.flat.specs.Nodes.{headerOf}
-use Rattle.tree.specs.Walk.{Walk, path, ended, enters, walkOf}
+use Rattle.words.specs.Outcome.{refused}
+use Rattle.flat.specs.Nodes.{headerOf, saidHeader}
+use Rattle.tree.specs.Walk.{path, ended, enters, walkOf}
 use Rattle.flat.specs.declared.Header.{Header}
 use Rattle.flat.specs.declared.Header.the-variants.{Bad, Good}
 use Rattle.walker.specs.Walked.{walkBytes}
 
 -- a tree whose header, of its first word x, was read as h
 module _ (ws : List ℕ) (w x n : ℕ) (h : Header) (first : x ≡ word ws 0) (size : n ≡ length ws) (is : h ≡ headerOf x n) where
-  headed : walkOf ws w ≡ enters h ws w
+  headed : walkOf ws w ≡ enters (saidHeader h) ws w
   unfolding walkOf
-  headed = ap (λ (g : Header). enters g ws w) (ap (λ (k : ℕ). headerOf k (length ws)) (sym first) ∙ ap (headerOf x) (sym size) ∙ sym is)
+  headed = ap (λ (g : Header). enters (saidHeader g) ws w) (ap (λ (k : ℕ). headerOf k (length ws)) (sym first) ∙ ap (headerOf x) (sym size) ∙ sym is)
 
   pub bad-tree : h ≡ Bad → refused 8 0 0 ≡ walkOf ws w
   unfolding enters
-  bad-tree e = sym (headed ∙ ap (λ (g : Header). enters g ws w) e)
+  bad-tree e = sym (headed ∙ ap (λ (g : Header). enters (saidHeader g) ws w) e)
 
   module _ (width nodes : ℕ) (good : h ≡ Good width nodes) where
     pub too-wide : ltb w (2 ^ width) ≡ false → refused 7 0 0 ≡ walkOf ws w

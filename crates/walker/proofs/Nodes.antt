@@ -1,18 +1,15 @@
 -- Where a path goes from a node that the code has read. Assumes nothing.
 use Prim.Native.Nat.{ℕ, _+_, _/_, _^_, _≤_, _<_}
-use mathlib.Core.Path.{_≡_, refl, sym, ap, _∙_, subst}
-use mathlib.Core.Bool.{true, false, cond}
+use mathlib.Core.Path.{_≡_, sym, ap, _∙_, subst}
+use mathlib.Core.Bool.{cond}
 use native.Mathlib.Omega.{arith}
 use lib.Bits.{bitAnd}
-use lib.Dec.{eqb}
 use borrow.Author.Tests.{eq-eqb, ne-eqb}
-use Rattle.words.specs.Words.{bit}
 use Rattle.flat.specs.Nodes.{nodeOf, NodeBounds}
 use Rattle.flat.specs.declared.Node.{Node}
 use Rattle.flat.specs.declared.Node.the-variants as node
 use Rattle.words.proofs.Parts.{bit-shr}
 use Rattle.walker.specs.Walked.{wentOf}
-use Rattle.walker.specs.declared.Went.{Went}
 use Rattle.walker.specs.declared.Went.the-variants as went
 
 module _ (width n at x w : ℕ) (r : Node) (is : r ≡ nodeOf width n at x) where
