@@ -1,1 +1,2 @@
+pub mod Simulator
 pub mod Examples

@@ -10,7 +10,7 @@ use Rattle.words.specs.Outcome.{result, refused}
 use Rattle.table.specs.Table.{Entry, entryNumber, tableOf}
 use Rattle.table.specs.Check.{fine, tableCheck, readTable}
 use Rattle.selection.specs.Lookup.{lookOf}
-use Rattle.selection.proofs.Formula.{Selects, Claimed, Unclaimed}
+use Rattle.selection.proofs.Formula.{Selects, Contested, Unclaimed}
 use Rattle.operands.specs.Calls.{entry-values, decodeOf, encodeOf}
 use Rattle.operands.proofs.Looking.{looks-entry, looks-nothing, looks-ambiguous}
 use Rattle.operands.proofs.Inverse.{table-good, looked-up, decode-reads, encode-reads, decode-encode, encode-decode}
@@ -31,7 +31,7 @@ module _ (ws : List ℕ) (reads : tableCheck ws ≡ fine) (w : ℕ) (of-width : 
   lookup-nothing = looks-nothing ws reads w of-width
 
   -- and number 6 with the word exactly when some entry claims it and none is selected
-  pub lookup-ambiguous : (lookOf (readTable ws) w ≡ refused 6 0 w) ↔ (Claimed entries w × ((e : ℕ) → Selects entries w e → ⊥))
+  pub lookup-ambiguous : (lookOf (readTable ws) w ≡ refused 6 0 w) ↔ Contested entries w
   lookup-ambiguous = looks-ambiguous ws reads w of-width
 
 -- "decode and encode are each other's inverse", for every list of words and every word: where the bits below the own bits of the entry

@@ -11,7 +11,7 @@ use Rattle.table.specs.Table.{tableOf}
 use Rattle.table.specs.Check.{fine, tableCheck, readTable}
 use Rattle.selection.specs.Selection.{Choice, names, nothing, ambiguous, select}
 use Rattle.selection.specs.Lookup.{lookedUp, lookOf}
-use Rattle.selection.proofs.Formula.{Selects, Claimed, Unclaimed, names-exactly, nothing-exactly, ambiguous-exactly}
+use Rattle.selection.proofs.Formula.{Selects, Contested, Unclaimed, names-exactly, nothing-exactly, ambiguous-exactly}
 
 -- what is looked up tells the choice
 chose-entry : (w e : ℕ) (c : Choice) → lookedUp w c ≡ result (some e) → c ≡ names e
@@ -44,7 +44,7 @@ module _ (ws : List ℕ) (reads : tableCheck ws ≡ fine) (w : ℕ) (of-width : 
       let x = nothing-exactly (tableOf ws .entries) w in
       (λ h. x .0 (chose-nothing w _ (sym looks ∙ h)), λ s. looks ∙ ap (lookedUp w) (x .1 s))
 
-  pub looks-ambiguous : (lookOf (readTable ws) w ≡ refused 6 0 w) ↔ (Claimed (tableOf ws .entries) w × ((e : ℕ) → Selects (tableOf ws .entries) w e → ⊥))
+  pub looks-ambiguous : (lookOf (readTable ws) w ≡ refused 6 0 w) ↔ Contested (tableOf ws .entries) w
   looks-ambiguous =
       let x = ambiguous-exactly (tableOf ws .entries) w in
       (λ h. x .0 (chose-ambiguous w _ (sym looks ∙ h)), λ s. looks ∙ ap (lookedUp w) (x .1 s))

@@ -28,6 +28,10 @@ Claimed es w = (j : ℕ) × (j < length es) × (claims w (entryNumber es j) ≡ 
 abbrev pub Unclaimed : List Entry → ℕ → Type 0
 Unclaimed es w = (j : ℕ) → j < length es → claims w (entryNumber es j) ≡ false
 
+-- the word is ambiguous: some entry claims it, and none that is more specific than all the others that claim it
+abbrev pub Contested : List Entry → ℕ → Type 0
+Contested es w = Claimed es w × ((i : ℕ) → Selects es w i → ⊥)
+
 module _ (es : List Entry) (w : ℕ) where
   abbrev wins : ℕ → Bool
   wins i = claims w (entryNumber es i) and beats es (claims w) i
@@ -75,7 +79,7 @@ module _ (es : List Entry) (w : ℕ) where
     λ u. rw (first-no wins (length es) (λ j h. isFalse (λ t. clash (and-l _ t) (u j h))), exists-no claimed (length es) u),
   )
 
-  pub ambiguous-exactly : (select es w ≡ ambiguous) ↔ (Claimed es w × ((i : ℕ) → Selects es w i → ⊥))
+  pub ambiguous-exactly : (select es w ≡ ambiguous) ↔ Contested es w
   unfolding select judge
   ambiguous-exactly = (
     λ e. let p = choice-ambiguous (first wins (length es)) (exists claimed (length es)) e in (

@@ -3,7 +3,7 @@
 --   for all lists of words ws and out; `walker::walk` answers `walkOf words w`, and `walker::walk_bytes` the same of the words of its bytes.
 --     Right     what a walk is when it is right
 --     right-walks     a walk is right whose path is that of a tree without conflict, which tests no bit twice
---     refused-ambiguous, ambiguous-refused, clear-generated     ambiguity, and when a tree is generated
+--     refused-word, refused-exactly, clear-generated     ambiguity, and when a tree is generated
 --     walk-right     the walks of the tree that was written
 use mathlib.Core.Path.{_≡_, refl, sym, ap, _∙_, subst}
 use mathlib.Core.Bool.{true}
@@ -24,7 +24,7 @@ use Rattle.table.specs.Lawful.{goodTable}
 use Rattle.table.proofs.Laws.{then-l, first-count, first-wide, first-width, length-entries}
 use Rattle.table.proofs.Good.{table-good}
 use Rattle.selection.specs.Selection.{Choice, names, nothing, ambiguous, select}
-use Rattle.selection.proofs.Formula.{Selects, Unclaimed, names-exactly, nothing-exactly}
+use Rattle.selection.proofs.Formula.{Selects, Unclaimed, Contested, names-exactly, nothing-exactly, ambiguous-exactly}
 use Rattle.cell.specs.Cell.{start}
 use Rattle.tree.specs.Tree.{Tree, tree, size, asked, distinct, conflict}
 use Rattle.tree.specs.Written.{written}
@@ -185,29 +185,41 @@ module _ (ws out : List ℕ) (t : Table) (reads : readTable ws ≡ result t) whe
 -- ---- demand 3: a table that reads without fault, and a buffer
 
 module _ (ws out : List ℕ) (t : Table) (reads : readTable ws ≡ result t) where
-  -- "Generating refuses as ambiguous exactly when an ambiguous word exists, and gives such a word": the word that it gives is one;
-  pub refused-ambiguous : (w : ℕ) → generateOf (readTable ws) (length out) ≡ refused 6 0 w → (w < 2 ^ (t .width)) × (select (t .entries) w ≡ ambiguous)
-  refused-ambiguous w e =
+  -- a conflict of the tree is a word of the width that is ambiguous, and there is one where such a word is
+  conflict-word : (w : ℕ) → generateOf (readTable ws) (length out) ≡ refused 6 0 w → (w < 2 ^ (t .width)) × (select (t .entries) w ≡ ambiguous)
+  conflict-word w e =
       let r = tree-conflict (t .entries) (t .width) (sane ws out t reads .good) w (judged-clash (tree (t .entries) (t .width)) (length out) _ w (sym (answered ws out t reads) ∙ e)) in
       (r .1, r .0)
 
-  -- where there is one it is refused so, if the tree fits ("Fit is decided before ambiguity");
-  pub ambiguous-refused : fits (tree (t .entries) (t .width)) (length out) ≡ true → (w : ℕ) → select (t .entries) w ≡ ambiguous → w < 2 ^ (t .width)
+  word-conflict : fits (tree (t .entries) (t .width)) (length out) ≡ true → (w : ℕ) → select (t .entries) w ≡ ambiguous
       → (v : ℕ) × (generateOf (readTable ws) (length out) ≡ refused 6 0 v)
   unfolding judged
-  ambiguous-refused f w a h =
+  word-conflict f w a =
       let c = conflict-found (tree (t .entries) (t .width)) start w (tree-right (t .entries) (t .width) (sane ws out t reads .good) w ∙ a) in
       (c .0, answered ws out t reads ∙ rw (c .1, f))
 
+  -- "Generating refuses as ambiguous exactly when an ambiguous word exists, and gives such a word". A word that it gives is one of the width
+  -- that is claimed by an entry, and by none that is more specific than all the others that claim it;
+  pub refused-word : (w : ℕ) → generateOf (readTable ws) (length out) ≡ refused 6 0 w → (w < 2 ^ (t .width)) × Contested (t .entries) w
+  refused-word w e = let c = conflict-word w e in (c .0, ambiguous-exactly (t .entries) w .0 (c .1))
+
+  -- and where the tree fits ("Fit is decided before ambiguity") it is refused with 6 exactly when there is such a word;
+  pub refused-exactly : fits (tree (t .entries) (t .width)) (length out) ≡ true
+      → ((w : ℕ) × (generateOf (readTable ws) (length out) ≡ refused 6 0 w)) ↔ ((w : ℕ) × (w < 2 ^ (t .width)) × Contested (t .entries) w)
+  refused-exactly f = (
+    λ r. let c = refused-word (r .0) (r .1) in (r .0, c .0, c .1),
+    λ r. word-conflict f (r .0) (ambiguous-exactly (t .entries) (r .0) .1 (r .2)),
+  )
+
   -- where there is none it is generated, if it fits
-  pub clear-generated : fits (tree (t .entries) (t .width)) (length out) ≡ true → ((w : ℕ) → w < 2 ^ (t .width) → select (t .entries) w ≡ ambiguous → ⊥)
+  pub clear-generated : fits (tree (t .entries) (t .width)) (length out) ≡ true → ((w : ℕ) → w < 2 ^ (t .width) → Contested (t .entries) w → ⊥)
       → generateOf (readTable ws) (length out) ≡ result (size (tree (t .entries) (t .width)) + 1)
   unfolding judged
   clear-generated f clear =
       answered ws out t reads
       ∙ options (conflict start (tree (t .entries) (t .width)))
       (λ c. rw (c, f))
-      (λ v c. let r = tree-conflict (t .entries) (t .width) (sane ws out t reads .good) v c in absurd (clear v (r .1) (r .0)))
+      (λ v c. let r = tree-conflict (t .entries) (t .width) (sane ws out t reads .good) v c in absurd (clear v (r .1) (ambiguous-exactly (t .entries) v .0 (r .0))))
 
   -- "else every walk of the written tree names exactly the selected entry, tests no bit twice, and counts truly":
   -- in the whole buffer, and in the n words that were answered ("words lent after them change no walk")

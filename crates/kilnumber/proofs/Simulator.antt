@@ -1,0 +1,58 @@
+-- Demand 3 at the call that the simulator makes: `kilnumber_walk` answers `packed (walkBytes bytes w)`, for all bytes and every word.
+-- Assumes nothing.
+use mathlib.Core.Path.{_≡_, refl, sym, ap, _∙_}
+use mathlib.Core.List.{List, [], _∷_}
+use Prim.Native.Nat.{ℕ, _+_, _*_, _/_, _%_, _^_, _<_}
+use native.Mathlib.Omega.{arith}
+use lib.ListN.{length, take}
+use Rattle.words.specs.Bytes.{wordOf, wordsOf}
+use Rattle.words.specs.Outcome.{Outcome, result}
+use Rattle.table.specs.Table.{Entry, Table}
+use Rattle.table.specs.Check.{readTable}
+use Rattle.selection.specs.Selection.{select}
+use Rattle.tree.specs.Tree.{tree, size}
+use Rattle.tree.specs.Generate.{generateOf, bufferOf}
+use Rattle.tree.specs.Walk.{Walk, named, walkOf}
+use Rattle.tree.proofs.Demand.{Right, walk-right}
+use Rattle.walker.specs.Walked.{walkBytes}
+use Rattle.walker.proofs.Headers.{whole-bytes}
+use Rattle.kilnumber.specs.Packed.{packed, named as namedBits}
+
+-- the bytes of 32-bit words, "each word low byte first"
+unfoldable pub bytesOf : List ℕ → List ℕ
+bytesOf [] = []
+bytesOf (w ∷ ws) = w % 2 ^ 8 ∷ w / 2 ^ 8 % 2 ^ 8 ∷ w / 2 ^ 16 % 2 ^ 8 ∷ w / 2 ^ 24 ∷ bytesOf ws
+
+four : (w : ℕ) → wordOf (w % 2 ^ 8) (w / 2 ^ 8 % 2 ^ 8) (w / 2 ^ 16 % 2 ^ 8) (w / 2 ^ 24) ≡ w
+unfolding wordOf
+four w = omega arith
+
+words-back : (ws : List ℕ) → wordsOf (bytesOf ws) ≡ ws
+unfolding bytesOf wordsOf
+words-back [] = refl
+words-back (w ∷ ws) = rw (four w, words-back ws)
+
+whole-words : (ws : List ℕ) → length (bytesOf ws) % 4 ≡ 0
+unfolding bytesOf
+whole-words [] = refl
+whole-words (w ∷ ws) = omega (arith, whole-words ws)
+
+-- the walk of the bytes is that of their words
+walk-bytes : (ws : List ℕ) (w : ℕ) → walkBytes (bytesOf ws) w ≡ walkOf ws w
+walk-bytes ws w = sym (whole-bytes (bytesOf ws) w (whole-words ws)) ∙ ap (λ (x : List ℕ). walkOf x w) (words-back ws)
+
+-- the 64 bits of a right walk: the selected entry, or bit 8 for nothing, and the number of the path's tests
+pub right-bits : (es : List Entry) (width n : ℕ) (words : List ℕ) (w : ℕ) (r : Right es width n words w)
+    → packed (walkBytes (bytesOf words) w) ≡ namedBits (named (select es w)) + length (r .tests) * 2 ^ 16
+right-bits es width n words w r = ap packed (walk-bytes words w ∙ r .answers)
+
+-- a table that reads, a buffer into which its tree is generated, and any word of the width: the walk of the words written is right, and the
+-- simulator, lent their bytes, is answered so
+module _ (ws out : List ℕ) (t : Table) (reads : readTable ws ≡ result t) (n : ℕ) (generated : generateOf (readTable ws) (length out) ≡ result n) where
+  abbrev tree-words : List ℕ
+  tree-words = take n (bufferOf (readTable ws) out)
+
+  pub simulated : (w : ℕ) → w < 2 ^ (t .width) →
+      (r : Right (t .entries) (t .width) (size (tree (t .entries) (t .width))) tree-words w)
+      × (packed (walkBytes (bytesOf tree-words) w) ≡ namedBits (named (select (t .entries) w)) + length (r .tests) * 2 ^ 16)
+  simulated w h = let r = walk-right ws out t reads n generated w h .1 in (r, right-bits _ _ _ _ _ r)
