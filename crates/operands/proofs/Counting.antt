@@ -12,7 +12,7 @@ use Rattle.operands.specs.declared.Decoding.the-variants as decoding
 use Rattle.operands.proofs.Inverse.{decode-reads, decoded, selected-lt, length-values}
 use Rattle.operands.proofs.Answering.{stands, length-fields}
 
-length-firsts : (n : ℕ) (out : List ℕ) → length (firstWords n out) ≡ n
+pub length-firsts : (n : ℕ) (out : List ℕ) → length (firstWords n out) ≡ n
 unfolding firstWords
 length-firsts zero out = refl
 length-firsts (suc n) [] = ap suc (length-firsts n [])

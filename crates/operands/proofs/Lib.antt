@@ -7,4 +7,5 @@ pub mod Looking
 pub mod Below
 pub mod Counting
 pub mod Demand
+pub mod Cases
 pub mod Examples

@@ -3,4 +3,5 @@ pub mod Judging
 pub mod Choosing
 pub mod Finding
 pub mod Formula
+pub mod Cases
 pub mod Examples

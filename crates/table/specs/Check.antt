@@ -1,6 +1,6 @@
 -- The faults of a table, numbers 1 to 4, in reading order ('Causes, numbers, places').
 use Prim.Native.Nat.{ℕ, zero, suc, _+_, _-_}
-use mathlib.Core.Bool.{Bool, true, false}
+use mathlib.Core.Bool.{Bool, true, false, cond}
 use mathlib.Core.List.{List}
 use lib.Bits.{bitAnd, bitOr}
 use lib.Dec.{eqb, leb}
@@ -126,6 +126,10 @@ firstCheck ws =
 -- the first fault of a table
 unfoldable pub tableCheck : List ℕ → Check
 tableCheck ws = firstCheck ws then entriesCheck ws (widthOf (word ws 0)) (countOf (word ws 0)) 1
+
+-- a table's own faults: "Numbers 1–4"
+abbrev pub tableFault : ℕ → Bool
+tableFault n = cond (leb 1 n) (leb n 4) false
 
 -- reading a table: its first fault, or the table
 abbrev pub reading : Check → Table → Outcome Table

@@ -1,5 +1,6 @@
 pub mod Theorem
 pub mod Below
+pub mod Cases
 pub mod Examples
 pub mod Writing
 pub mod Makers

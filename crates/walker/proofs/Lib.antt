@@ -1,3 +1,4 @@
 pub mod Nodes
 pub mod Paths
 pub mod Headers
+pub mod Cases

@@ -304,3 +304,9 @@ module _ {A : Type 0} (q : A → Bool) (item : ℕ → A) (after : ℕ → ℕ) 
   unfolding anyOf
   search-none zero p h = rw (none-left p)
   search-none (suc n) p h = absurd (omega arith)
+
+-- ---- functions
+
+-- what can be told back is one-to-one
+pub one-to-one : {A B : Type 0} (f : A → B) (back : B → A) → ((a : A) → back (f a) ≡ a) → (a b : A) → f a ≡ f b → a ≡ b
+one-to-one f back h a b e = sym (h a) ∙ ap back e ∙ h b

@@ -1,0 +1,32 @@
+-- Each case of a walk's answer says another thing, so that the promise fixes the answer itself. Assumes nothing.
+use mathlib.Core.Path.{_≡_, refl}
+use mathlib.Core.Bool.{cond}
+use mathlib.Core.Option.{Option, none, some}
+use Prim.Native.Nat.{ℕ}
+use lib.Dec.{eqb}
+use Rattle.words.specs.Outcome.{Outcome, result, faulty, refused}
+use Rattle.words.proofs.Logic.{one-to-one}
+use Rattle.tree.specs.Walk.{Walk}
+use Rattle.walker.specs.Walked.{said}
+use Rattle.walker.specs.declared.Walked.{Walked}
+use Rattle.walker.specs.declared.Walked.the-variants as walked
+
+back-walk : Option ℕ → ℕ → Walked
+back-walk (some e) n = walked.Entry e n
+back-walk none n = walked.Nothing n
+
+back : Outcome Walk → Walked
+back (result a) = back-walk (a .entry) (a .count)
+back (faulty n p) = walked.BadTree
+back (refused n p w) = cond (eqb n 7) walked.TooWide (cond (eqb n 9) (walked.Damaged p) walked.BadTree)
+
+back-said : (r : Walked) → back (said r) ≡ r
+unfolding back back-walk
+back-said (walked.Entry e n) = refl
+back-said (walked.Nothing n) = refl
+back-said walked.BadTree = refl
+back-said walked.TooWide = refl
+back-said (walked.Damaged i) = refl
+
+pub said-one : (r s : Walked) → said r ≡ said s → r ≡ s
+said-one = one-to-one said back back-said
