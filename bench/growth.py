@@ -111,7 +111,7 @@ def lookup_series(rng):
 def batch_of(kind, words, rng):
     """As many requests for one table as an input holds, at most 4,000; the bytes, and how many they are."""
     make = (lambda: ("read", words)) if kind == "read" else (lambda: ("lookup", words, rng.getrandbits(WIDTH) if rng.random() < 0.5 else 0))
-    count = min(4000, MOST_BYTES // (4 * (len(words) + 3)))
+    count = min(4000, MOST_BYTES // (4 * (len(words) + 5)))
     return b"".join(pack(request_of(make())) for _ in range(count)), count
 
 

@@ -155,11 +155,11 @@ def some_words(rng, one, tally):
 
 def lookups(path, words, asked):
     """Probe's lines for many lookups in one table, whose words are packed only once."""
-    start = probe.pack([2, *probe.run_of(words)])
-    together = probe.MOST_BYTES // (len(start) + 4)
+    start = probe.pack([2, 2, *probe.part_of(words)])
+    together = probe.MOST_BYTES // (len(start) + 8)
     lines = []
     for at in range(0, len(asked), together):
-        lines += probe.lines_of(path, b"".join(start + probe.pack([word]) for word in asked[at:at + together]))
+        lines += probe.lines_of(path, b"".join(start + probe.pack(probe.part_of(word)) for word in asked[at:at + together]))
     return lines
 
 

@@ -1,4 +1,4 @@
-"""Runs the program `probe` (probe-format.md) on requests and gives back its lines."""
+"""Runs the program `probe` (docs/probe.md) on requests and gives back its lines."""
 
 import struct
 import subprocess
@@ -22,43 +22,38 @@ def pack(words):
     return struct.pack(f"<{len(words)}I", *words)
 
 
-def run_of(words):
-    """A run: how many words, then the words."""
-    return [len(words), *words]
-
-
-def bytes_of(data):
-    """Bytes: how many, then the bytes padded to whole words. The padding isn't zero, because what it holds is ignored."""
+def part_of(value):
+    """The words of a part: how many bytes, then the bytes, padded to whole words. The value is bytes, words or one number. The padding isn't
+    zero, because what it holds is ignored."""
+    data = value if isinstance(value, bytes) else pack(value if isinstance(value, list) else [value])
     padded = data + b"\xa5" * (-len(data) % 4)
     return [len(data), *struct.unpack(f"<{len(padded) // 4}I", padded)]
+
+
+# The requests in the order of their numbers, from 1, and what a call takes from each part: words, bytes or a number.
+FORMS = {"read": "W", "lookup": "WN", "generate": "WW", "walk bytes": "BN", "decode": "WNW", "encode": "WNW", "check": "WW",
+         "step": "WWBN", "list": "WWBW", "walk": "WN"}
+NAMES = list(FORMS)
 
 
 def request_of(question):
     """The words of a request. A question is ("read", table), ("lookup", table, word), ("generate", table, buffer),
     ("walk bytes", bytes, word), ("decode", table, word, buffer), ("encode", table, entry, values), ("check", table, tree),
     ("step", table, tree, image, address), ("list", table, tree, image, buffer) or ("walk", tree, word)."""
-    name, first, *rest = question
-    if name == "read":
-        return [1, *run_of(first)]
-    if name == "lookup":
-        return [2, *run_of(first), rest[0]]
-    if name == "generate":
-        return [3, *run_of(first), *run_of(rest[0])]
-    if name == "walk bytes":
-        return [4, *bytes_of(first), rest[0]]
-    if name == "decode":
-        return [5, *run_of(first), rest[0], *run_of(rest[1])]
-    if name == "encode":
-        return [6, *run_of(first), rest[0], *run_of(rest[1])]
-    if name == "check":
-        return [7, *run_of(first), *run_of(rest[0])]
-    if name == "step":
-        return [8, *run_of(first), *run_of(rest[0]), *bytes_of(rest[1]), rest[2]]
-    if name == "list":
-        return [9, *run_of(first), *run_of(rest[0]), *bytes_of(rest[1]), *run_of(rest[2])]
-    if name == "walk":
-        return [10, *run_of(first), rest[0]]
-    raise ValueError(name)
+    name, *parts = question
+    return [NAMES.index(name) + 1, len(parts), *(word for part in parts for word in part_of(part))]
+
+
+def words_of(data):
+    """The whole words of bytes."""
+    return list(struct.unpack(f"<{len(data) // 4}I", data[:len(data) // 4 * 4]))
+
+
+def question_of(number, parts):
+    """The question of a request, given its number and the bytes of its parts. Parts that it does not have are empty."""
+    name = NAMES[number - 1]
+    take = {"W": words_of, "B": bytes, "N": lambda part: (words_of(part) or [0])[0]}
+    return name, *(take[form](part) for form, part in zip(FORMS[name], parts + [b""] * 8))
 
 
 def lines_of(path, data):

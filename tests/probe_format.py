@@ -1,7 +1,7 @@
-"""Tests of the framing of probe-format.md: what is a whole request, and where probe stops.
+"""Tests of the form of requests (docs/probe.md): what is a whole request, what its parts give to a call, and where probe stops.
 
 Usage: probe_format.py [path of probe]. Exits with status 1 at the first difference. Every expected line is written
-by hand. The only request asked for is 1; unknown numbers are 0, 11 and larger, because 2 to 10 are or will be known.
+by hand.
 """
 
 import sys
@@ -9,99 +9,196 @@ import sys
 import probe
 
 PRINTED = [0x10010002, 0x20050210, 0x00000002, 0x00000002, 0x30000001]
-GOOD = [1, 5, *PRINTED]             # seven words
+GOOD = [1, 1, 20, *PRINTED]         # eight words
 GOOD_LINE = "1 0 0 00000000 2 1"
-EMPTY = [1, 0]                      # two words: a run of no words, the empty table
+EMPTY = [1, 1, 0]                   # three words: a part of no bytes, the empty table
 EMPTY_LINE = "1 1 0 00000000"
-SHORT = [1, 1, 0x10010002]          # three words: a table that ends early
+SHORT = [1, 1, 4, 0x10010002]       # four words: a table that ends early
 SHORT_LINE = "1 2 1 00000000"
+NO_PARTS = [1, 0]                   # two words: the table is empty too
+
+TREE = [0x70020003, 0x80800003, 0xA0000000, 0x90000000]
+EIGHT = [0x11111111 * k for k in range(1, 9)]
+EIGHT_TEXT = " ".join(f"{word:08x}" for word in EIGHT)
 
 WORDS_IN_FULL_INPUT = 262144        # 1,048,576 bytes
+UNKNOWN = (0, len(probe.NAMES) + 1, 100, 255, 0x100, 0x101, 0x10001, 0x1000001, 0x80000001, 0x7FFFFFFF, 0xFFFFFFFF)
 
 
 def bytes_of(words, trailing=b""):
     return probe.pack(words) + trailing
 
 
+def asked(number, *parts):
+    """A request's bytes from its number and its parts."""
+    return bytes_of([number, len(parts), *(word for part in parts for word in probe.part_of(part))])
+
+
 def whole_requests():
     yield "empty input", b"", []
     yield "one request", bytes_of(GOOD), [GOOD_LINE]
-    yield "an empty run", bytes_of(EMPTY), [EMPTY_LINE]
-    yield "several requests", bytes_of(GOOD + EMPTY + SHORT + GOOD), [GOOD_LINE, EMPTY_LINE, SHORT_LINE, GOOD_LINE]
+    yield "an empty part", bytes_of(EMPTY), [EMPTY_LINE]
+    yield "no parts", bytes_of(NO_PARTS), [EMPTY_LINE]
+    yield "several requests", bytes_of(GOOD + EMPTY + SHORT + NO_PARTS + GOOD), [GOOD_LINE, EMPTY_LINE, SHORT_LINE, EMPTY_LINE, GOOD_LINE]
     yield "a thousand requests", bytes_of((SHORT + GOOD) * 500), [SHORT_LINE, GOOD_LINE] * 500
+    yield "the format's example", bytes_of([2, 2, 20, *PRINTED, 4, 3]), ["2 0 0 00000000 0"]
 
 
 def unknown_numbers():
     """The number is the whole word: low or high parts of a known one don't make it known."""
-    for number in (0, 11, 12, 255, 0x100, 0x101, 0x10001, 0x1000001, 0x80000001, 0x7FFFFFFF, 0xFFFFFFFF):
+    for number in UNKNOWN:
         what = f"unknown number {number:#x}"
         yield what, bytes_of([number]), ["stopped 0"]
         yield what + ", a good table after it", bytes_of([number, *GOOD[1:]]), ["stopped 0"]
-        yield what + " after a request", bytes_of([*GOOD, number]), [GOOD_LINE, "stopped 7"]
-        yield what + " between requests", bytes_of([*GOOD, *EMPTY, number, *GOOD]), [GOOD_LINE, EMPTY_LINE, "stopped 9"]
-        yield what + " with trailing bytes", bytes_of([*SHORT, number], b"\x01\x00"), [SHORT_LINE, "stopped 3"]
+        yield what + ", no parts", bytes_of([number, 0]), ["stopped 0"]
+        yield what + " after a request", bytes_of([*GOOD, number, 0]), [GOOD_LINE, "stopped 8"]
+        yield what + " between requests", bytes_of([*GOOD, *EMPTY, number, 0, *GOOD]), [GOOD_LINE, EMPTY_LINE, "stopped 11"]
+        yield what + " with trailing bytes", bytes_of([*SHORT, number], b"\x01\x00"), [SHORT_LINE, "stopped 4"]
+
+
+def counts_of_parts():
+    """0 to 8 parts, and not more, though the input holds them; the count is the whole word."""
+    for count in range(9):
+        yield f"{count} empty parts", bytes_of([1, count, *[0] * count, *GOOD]), [EMPTY_LINE, GOOD_LINE]
+    for count in (9, 10, 16, 0x101, 0x108, 0x10001, 0x1000001, 0x80000001, 0x7FFFFFFF, 0xFFFFFFFF):
+        what = f"{count:#x} parts"
+        yield what, bytes_of([1, count]), ["stopped 0"]
+        yield what + ", enough words", bytes_of([1, count, *[0] * 300]), ["stopped 0"]
+        yield what + " after a request", bytes_of([*GOOD, 1, count, *GOOD[2:], *[0] * 20]), [GOOD_LINE, "stopped 8"]
+
+
+def parts_not_taken():
+    """Parts that a call does not take are not looked at, but they belong to the request."""
+    table, strange = probe.part_of(PRINTED), probe.part_of(b"\xff" * 7)
+    for extra in range(1, 8):
+        yield f"{extra} parts after the table", bytes_of([1, 1 + extra, *table, *strange * extra, *EMPTY]), [GOOD_LINE, EMPTY_LINE]
+        yield f"{extra} parts, the last cut", bytes_of([1, 1 + extra, *table, *strange * extra])[:-1], ["stopped 0"]
+    yield "a buffer after the buffer", asked(3, [], EIGHT[:2], EIGHT), ["3 1 0 00000000 | 11111111 22222222"]
+
+
+def parts_not_there():
+    """Parts that a request does not have are empty, and a number that is not there is 0."""
+    printed = probe.part_of(PRINTED)
+    yield "lookup, no parts", bytes_of([2, 0]), ["2 1 0 00000000"]
+    yield "lookup, no word", bytes_of([2, 1, *printed]), ["2 0 0 00000000 nothing"]
+    yield "generate, no buffer", bytes_of([3, 1, *printed]), ["3 5 0 00000000 |"]
+    yield "walk for C, no parts", bytes_of([4, 0]), ["4 0 0 00000000 0000000800000000"]
+    yield "decode, no buffer", bytes_of([5, 2, *printed, *probe.part_of(3)]), ["5 10 0 00000000 |"]
+    yield "encode, no values", bytes_of([6, 2, *printed, *probe.part_of(0)]), ["6 11 0 00000000"]
+    yield "check, no tree", bytes_of([7, 1, *printed]), ["7 14 0 00000000"]
+    yield "step, no parts", bytes_of([8, 0]), ["8 1 0 00000000"]
+    yield "list, no parts", bytes_of([9, 0]), ["9 1 0 00000000 |"]
+    yield "walk, no word", bytes_of([10, 1, *probe.part_of(TREE)]), ["10 0 0 00000000 nothing 1"]
+    # what comes next in the input is no part of it
+    yield "nothing is taken from the next request", bytes_of([2, 1, *printed, *GOOD]), ["2 0 0 00000000 nothing", GOOD_LINE]
+
+
+def words_of_parts():
+    """An argument of words is the part's whole words; a rest of one to three bytes is left out. Bytes are all of them."""
+    tree, image_table = probe.pack(TREE), [0x10000020]
+    for rest in (b"", b"\xff", b"\xff\xee", b"\xff\xee\xdd"):
+        what = f"{len(rest)} bytes over"
+        yield "a table, " + what, asked(1, probe.pack(PRINTED) + rest), [GOOD_LINE]
+        yield "a table of no word, " + what, asked(1, rest), [EMPTY_LINE]
+        yield "a buffer, " + what, asked(5, PRINTED, 0, probe.pack(EIGHT) + rest), ["5 0 0 00000000 nothing | " + EIGHT_TEXT]
+        yield "a buffer of no word, " + what, asked(3, [], rest), ["3 1 0 00000000 |"]
+        yield "values, " + what, asked(6, PRINTED, 0, probe.pack([1]) + rest), ["6 0 0 00000000 00000003"]
+        yield "a tree of words, " + what, asked(10, tree + rest, 3), ["10 0 0 00000000 0 1"]
+        yield "a tree of bytes, " + what, asked(4, tree + rest, 3), \
+            ["4 0 0 00000000 " + ("0000000800000000" if rest else "0000000000010000")]
+        yield "an image, " + what, asked(9, image_table, [0x70200001, 0xA0000000], rest, [5]), \
+            ["9 16 0 00000000 | 00000005" if len(rest) % 2 else f"9 0 0 00000000 {len(rest) // 2} | " + ("d0000000" if rest else "00000005")]
+
+
+def numbers():
+    """A number is the part's first whole word, 0 if it has none."""
+    for data, line in ((b"", "nothing"), (b"\x03", "nothing"), (b"\x03\x00", "nothing"), (b"\x03\x00\x00", "nothing"),
+                       (b"\x03\x00\x00\x00", "0"), (b"\x03\x00\x00\x00\xff", "0"), (b"\x03\x00\x00\x00\xff\xff\xff", "0"),
+                       (probe.pack([3, 0]), "0"), (probe.pack([0, 3]), "nothing"), (probe.pack([3, 1, 4, 1, 5]), "0")):
+        yield f"a number in {len(data)} bytes", asked(2, PRINTED, data) + bytes_of(GOOD), ["2 0 0 00000000 " + line, GOOD_LINE]
+    yield "a number is 32 bits", asked(2, PRINTED, 0x80000003), ["2 7 0 00000000"]
+    yield "an entry is 32 bits", asked(6, PRINTED, 0x80000000, [1]), ["6 11 0 00000000"]
+    yield "an address is 32 bits", asked(8, [0x10000020], [0x70200001, 0xA0000000], b"\0\0", 0x80000000), ["8 0 0 00000000 end"]
+
+
+def paddings():
+    """What the padding holds is ignored; it has to be there."""
+    for size in (1, 2, 3):
+        for padding in (b"\x00", b"\x5a", b"\xff"):
+            part = bytes_of([1, 1, 20 + size]) + probe.pack(PRINTED) + b"\x77" * size + padding * (4 - size)
+            yield f"{size} bytes, padded with {padding.hex()}", part + bytes_of(EMPTY), [GOOD_LINE, EMPTY_LINE]
+            for cut in range(1, 5 - size):
+                yield f"{cut} bytes of the padding are not there", part[:-cut], ["stopped 0"]
+                yield f"{cut} bytes of the padding are not there, later", bytes_of(GOOD) + part[:-cut], [GOOD_LINE, "stopped 8"]
+        image = b"\x00" * size
+        yield f"an image of {size} bytes", asked(9, [0x10000020], [0x70200001, 0xA0000000], image, [5]), \
+            ["9 0 0 00000000 1 | d0000000" if size == 2 else "9 16 0 00000000 | 00000005"]
 
 
 def broken_requests():
     """Requests that are not whole, cut after each of their words."""
-    for length in range(1, 7):
+    for length in range(1, 8):
         part = GOOD[:length]
         yield f"{length} words of a request", bytes_of(part), ["stopped 0"]
-        yield f"{length} words after a request", bytes_of(GOOD + part), [GOOD_LINE, "stopped 7"]
+        yield f"{length} words after a request", bytes_of(GOOD + part), [GOOD_LINE, "stopped 8"]
         yield f"{length} words after three", bytes_of(GOOD + SHORT + EMPTY + part), \
-            [GOOD_LINE, SHORT_LINE, EMPTY_LINE, "stopped 12"]
+            [GOOD_LINE, SHORT_LINE, EMPTY_LINE, "stopped 15"]
+    yield "the second of two parts is not there", bytes_of([1, 2, 20, *PRINTED]), ["stopped 0"]
+    yield "the last of eight parts is not there", bytes_of([1, 8, 20, *PRINTED, *[0] * 6]), ["stopped 0"]
 
 
-def counts_too_large():
-    """Counts the input can't hold; some of them wrap to a small number when they are multiplied by four or added to."""
-    for count in (6, 7, 0x100, 0x10000, 262144, 0x3FFFFFFD, 0x3FFFFFFE, 0x3FFFFFFF, 0x40000000, 0x40000001, 0x40000005,
-                  0x7FFFFFFF, 0x80000000, 0x80000005, 0xC0000005, 0xFFFFFFFC, 0xFFFFFFFD, 0xFFFFFFFE, 0xFFFFFFFF):
-        what = f"a run of {count:#x}"
-        yield what, bytes_of([1, count, *PRINTED]), ["stopped 0"]
-        yield what + ", no word there", bytes_of([1, count]), ["stopped 0"]
-        yield what + " after requests", bytes_of(GOOD + EMPTY + [1, count, *PRINTED]), [GOOD_LINE, EMPTY_LINE, "stopped 9"]
+def lengths_too_large():
+    """Lengths the input can't hold; some of them wrap to a small number when they are padded or added to."""
+    for length in (21, 24, 25, 0x100, 0x10000, 1048576, 0x3FFFFFFF, 0x40000000, 0x40000014, 0x7FFFFFFF, 0x80000000, 0x80000014,
+                   0xC0000014, 0xFFFFFFEC, 0xFFFFFFF0, 0xFFFFFFFB, 0xFFFFFFFC, 0xFFFFFFFD, 0xFFFFFFFE, 0xFFFFFFFF):
+        what = f"a part of {length:#x}"
+        yield what, bytes_of([1, 1, length, *PRINTED]), ["stopped 0"]
+        yield what + ", no word there", bytes_of([1, 1, length]), ["stopped 0"]
+        yield what + ", a part after it", bytes_of([1, 2, length, *PRINTED]), ["stopped 0"]
+        yield what + " that is not taken", bytes_of([1, 2, 20, *PRINTED, length]), ["stopped 0"]
+        yield what + " after requests", bytes_of(GOOD + EMPTY + [1, 1, length, *PRINTED]), [GOOD_LINE, EMPTY_LINE, "stopped 11"]
     # The words after the broken request's own are no requests any more.
-    yield "a run that takes the next request's words", bytes_of([1, 7, *PRINTED, *EMPTY]), ["1 2 5 00000000"]
-    yield "a run that wants one more than that", bytes_of([1, 8, *PRINTED, *EMPTY]), ["stopped 0"]
+    yield "a part that takes the next request's words", bytes_of([1, 1, 32, *PRINTED, *EMPTY]), ["1 2 5 00000000"]
+    yield "a part that wants one byte more than that", bytes_of([1, 1, 33, *PRINTED, *EMPTY]), ["stopped 0"]
 
 
 def trailing_bytes():
     for trailing in (b"\x01", b"\x01\x00", b"\x01\x00\x00", b"\x00", b"\xff\xff\xff"):
         what = f"{len(trailing)} trailing bytes"
         yield what + " alone", trailing, ["stopped 0"]
-        yield what + " after a request", bytes_of(GOOD, trailing), [GOOD_LINE, "stopped 7"]
-        yield what + " after two requests", bytes_of(EMPTY + GOOD, trailing), [EMPTY_LINE, GOOD_LINE, "stopped 9"]
+        yield what + " after a request", bytes_of(GOOD, trailing), [GOOD_LINE, "stopped 8"]
+        yield what + " after two requests", bytes_of(EMPTY + GOOD, trailing), [EMPTY_LINE, GOOD_LINE, "stopped 11"]
+        yield what + " after a request without parts", bytes_of(NO_PARTS, trailing), [EMPTY_LINE, "stopped 2"]
         yield what + " after a request's number", bytes_of([1], trailing), ["stopped 0"]
-        yield what + " after a run's count", bytes_of([1, 1], trailing), ["stopped 0"]
-        yield what + " in a run", bytes_of(GOOD[:6], trailing), ["stopped 0"]
-        yield what + " in a second request", bytes_of(GOOD + GOOD[:6], trailing), [GOOD_LINE, "stopped 7"]
+        yield what + " after its count of parts", bytes_of([1, 1], trailing), ["stopped 0"]
+        yield what + " after a part's length", bytes_of([1, 1, 1], trailing), ["stopped 0"]
+        yield what + " in a part", bytes_of(GOOD[:7], trailing), ["stopped 0"]
+        yield what + " in a second request", bytes_of(GOOD + GOOD[:7], trailing), [GOOD_LINE, "stopped 8"]
 
 
 def full_inputs():
     """Inputs of exactly 1,048,576 bytes."""
-    words = GOOD * 37448 + EMPTY * 4
-    yield "full, all whole", bytes_of(words), [GOOD_LINE] * 37448 + [EMPTY_LINE] * 4
-    yield "full, one request", bytes_of([1, WORDS_IN_FULL_INPUT - 2] + [0] * (WORDS_IN_FULL_INPUT - 2)), ["1 1 0 00000000"]
-    yield "full, one word too many asked", bytes_of([1, WORDS_IN_FULL_INPUT - 1] + [0] * (WORDS_IN_FULL_INPUT - 2)), ["stopped 0"]
-    yield "full, the last is not whole", bytes_of(GOOD * 37449 + [1]), [GOOD_LINE] * 37449 + ["stopped 262143"]
-    yield "full, the last is unknown", bytes_of(GOOD * 37449 + [11]), [GOOD_LINE] * 37449 + ["stopped 262143"]
-    yield "one byte less than full", bytes_of(GOOD * 37449, b"\x01\x00\x00"), [GOOD_LINE] * 37449 + ["stopped 262143"]
+    yield "full, all whole", bytes_of(GOOD * 32768), [GOOD_LINE] * 32768
+    most = WORDS_IN_FULL_INPUT - 3
+    yield "full, one request", bytes_of([1, 1, 4 * most] + [0] * most), ["1 1 0 00000000"]
+    yield "full, one byte too many asked", bytes_of([1, 1, 4 * most + 1] + [0] * most), ["stopped 0"]
+    yield "full, the last is not whole", bytes_of(GOOD * 32767 + EMPTY * 2 + [1, 1]), [GOOD_LINE] * 32767 + [EMPTY_LINE] * 2 + ["stopped 262142"]
+    yield "full, the last is unknown", bytes_of(GOOD * 32767 + EMPTY * 2 + [0, 0]), [GOOD_LINE] * 32767 + [EMPTY_LINE] * 2 + ["stopped 262142"]
+    yield "one byte less than full", bytes_of(GOOD * 32768)[:-1], [GOOD_LINE] * 32767 + ["stopped 262136"]
 
 
 def inputs_too_long():
     """Over 1,048,576 bytes nothing is answered, whatever the input holds."""
-    words = GOOD * 37448 + EMPTY * 4
+    words = GOOD * 32768
     for extra in (1, 2, 3, 4, 8, 4096, 1048576, 3 * 1048576):
         yield f"{extra} bytes too many", bytes_of(words, b"\x00" * extra), ["stopped 0"]
     yield "one whole request too many", bytes_of(words + GOOD), ["stopped 0"]
-    too_many = WORDS_IN_FULL_INPUT - 1
-    yield "one request, one word too long", bytes_of([1, too_many] + [0] * too_many), ["stopped 0"]
+    too_many = WORDS_IN_FULL_INPUT - 2
+    yield "one request, one word too long", bytes_of([1, 1, 4 * too_many] + [0] * too_many), ["stopped 0"]
 
 
-def all_cases():
-    for source in (whole_requests, unknown_numbers, broken_requests, counts_too_large, trailing_bytes,
-                   full_inputs, inputs_too_long):
-        yield from source()
+SOURCES = (whole_requests, unknown_numbers, counts_of_parts, parts_not_taken, parts_not_there, words_of_parts, numbers, paddings,
+           broken_requests, lengths_too_large, trailing_bytes, full_inputs, inputs_too_long)
 
 
 def shortened(lines):
@@ -124,10 +221,11 @@ def stop_at_difference(name, data, expected, seen):
 def main():
     path = probe.path_from_arguments()
     done = 0
-    for name, data, expected in all_cases():
-        stop_at_difference(name, data, expected, probe.lines_of(path, data))
-        done += 1
-    if done < 150:
+    for source in SOURCES:
+        for name, data, expected in source():
+            stop_at_difference(f"{source.__name__}: {name}", data, expected, probe.lines_of(path, data))
+            done += 1
+    if done < 300:
         print(f"only {done} inputs were tried")
         sys.exit(1)
     print(f"probe_format good: {done} inputs")

@@ -1,5 +1,5 @@
-"""Tests of the framing of requests 2 to 10 (probe-format.md): cut after each word, counts too large, trailing
-bytes, and lines longer than probe's line buffer. Whole requests get the second implementation's line.
+"""Tests of requests 2 to 10 as a whole (docs/probe.md): cut after each word, lengths too large, trailing bytes, parts left out
+and added, and lines longer than probe's page. Whole requests get the second implementation's line.
 
 Usage: probe_requests.py [path of probe]. Exits with status 1 at the first difference. It stands beside probe.py.
 """
@@ -31,8 +31,9 @@ QUESTIONS = [
     ("list", IMAGE_TABLE, IMAGE_TREE, IMAGE[:3], EIGHT[:2]), ("list", IMAGE_TABLE, IMAGE_TREE, b"", []),
     ("list", [], [], b"", []),
 ]
-TOO_LARGE = (6, 7, 0x100, 262144, 0x3FFFFFFF, 0x40000000, 0x40000005, 0x7FFFFFFF, 0x80000000, 0xFFFFFFFA, 0xFFFFFFFB,
-             0xFFFFFFFC, 0xFFFFFFFD, 0xFFFFFFFE, 0xFFFFFFFF)
+TOO_LARGE = (0x100, 262144, 0x3FFFFFFF, 0x40000000, 0x40000005, 0x7FFFFFFF, 0x80000000, 0xFFFFFFFA, 0xFFFFFFFB, 0xFFFFFFFC,
+             0xFFFFFFFD, 0xFFFFFFFE, 0xFFFFFFFF)
+EMPTY, EMPTY_LINE = [1, 0], "1 1 0 00000000"
 
 
 def words_of(questions):
@@ -46,50 +47,64 @@ def whole_and_cut():
         for question in QUESTIONS:
             words, line = probe.request_of(question), line_of(question)
             yield question, probe.pack(start + words), lines + [line]
-            yield question, probe.pack(start + words + [1, 0]), lines + [line, "1 1 0 00000000"]
+            yield question, probe.pack(start + words + EMPTY), lines + [line, EMPTY_LINE]
             yield question, probe.pack(start + words) + b"\x02", lines + [line, f"stopped {len(start + words)}"]
             for length in range(1, len(words)):
                 for trailing in (b"", b"\x01", b"\x00\x00\x00"):
                     yield question, probe.pack(start + words[:length]) + trailing, lines + [f"stopped {len(start)}"]
 
 
-def counts_too_large():
-    for count in TOO_LARGE:
-        for number in (2, 3, 5, 6, 7, 8, 9, 10):
-            yield number, probe.pack([number, count, *PRINTED]), ["stopped 0"]
-            yield number, probe.pack([1, 0, number, count, *PRINTED]), ["1 1 0 00000000", "stopped 2"]
-        for number in (5, 6):
-            yield number, probe.pack([number, 5, *PRINTED, 3, count]), ["stopped 0"]
-            yield number, probe.pack([number, 5, *PRINTED, 3, count, 1, 2, 3, 4, 5]), ["stopped 0"]
-        yield 3, probe.pack([3, 5, *PRINTED, count, 1, 2, 3, 4, 5]), ["stopped 0"]
-        for number in (7, 8, 9):
-            yield number, probe.pack([number, 5, *PRINTED, count, *TREE[:4]]), ["stopped 0"]
-        for number in (8, 9):
-            # bytes, then the address or the buffer's count: after 16 bytes there is no word left for it
-            yield number, probe.pack([number, 5, *PRINTED, 4, *TREE, max(count, 13), 1, 2, 3, 4]), ["stopped 0"]
-        yield 9, probe.pack([9, 5, *PRINTED, 4, *TREE, 3, 1, count, 1, 2, 3, 4, 5]), ["stopped 0"]
-        # a tree as bytes and the word after it: five words hold 16 bytes and the word
-        yield 4, probe.pack([4, max(count, 17), *PRINTED]), ["stopped 0"]
+def lengths_too_large():
+    """Each part of each request with a length that the input can't hold."""
+    for question in QUESTIONS:
+        words, at = probe.request_of(question), 2
+        for part in question[1:]:
+            for length in TOO_LARGE:
+                broken = [*words[:at], length, *words[at + 1:]]
+                yield question, probe.pack(broken), ["stopped 0"]
+                yield question, probe.pack(EMPTY + broken), [EMPTY_LINE, "stopped 2"]
+            at += len(probe.part_of(part))
+
+
+def other_parts():
+    """A part that is left out is empty, and one that is not taken changes nothing."""
+    for question in QUESTIONS:
+        name, *parts = question
+        words, line = probe.request_of(question), line_of(question)
+        for extra in range(1, 9 - len(parts)):
+            more = [word for k in range(extra) for word in probe.part_of(b"\x5a" * (k * 5))]
+            yield question, probe.pack([words[0], len(parts) + extra, *words[2:], *more, *EMPTY]), [line, EMPTY_LINE]
+        # the last part is the one that is left out: what stands for it is empty, of its own sort
+        without = 0 if isinstance(parts[-1], int) else b"" if isinstance(parts[-1], bytes) else []
+        fewer = words[2:len(words) - len(probe.part_of(parts[-1]))]
+        yield question, probe.pack([words[0], len(parts) - 1, *fewer, *EMPTY]), [line_of((*question[:-1], without)), EMPTY_LINE]
 
 
 def long_lines():
-    """Buffers about as long as one or two of probe's line buffers, and the longest that an input holds."""
-    for size in (*range(440, 460), *range(895, 915), 65536, WORDS_IN_FULL_INPUT - 9):
+    """Buffers about as long as one or two of probe's pages of 65,536 bytes, and the longest that an input holds."""
+    for size in (*range(7270, 7290), *range(14555, 14570), 65536, WORDS_IN_FULL_INPUT - 11):
         buffer = [(0x9E3779B9 * k) & 0xFFFFFFFF for k in range(size)]
         for table in (PRINTED, []):
             question = ("decode", table, 3, buffer)
             words = probe.request_of(question)
             if len(words) <= WORDS_IN_FULL_INPUT:
                 yield ("decode", table, 3, size), probe.pack(words), [line_of(question)]
-    long, short = ("decode", PRINTED, 3, [9] * 600), ("decode", PRINTED, 3, [7] * 8)
+    long, short = ("decode", PRINTED, 3, [9] * 8000), ("decode", PRINTED, 3, [7] * 8)
     yield "long, then short, then empty", probe.pack(words_of([long, short, ("decode", [], 3, []), long])), \
         [line_of(question) for question in (long, short, ("decode", [], 3, []), long)]
+
+
+def many_lines():
+    """A page's end in each place of a line."""
+    for before in range(0, 70, 3):
+        questions = [QUESTIONS[0], *[QUESTIONS[3]] * (before + 700), *QUESTIONS]
+        yield f"{before + 700} lines", probe.pack(words_of(questions)), [line_of(question) for question in questions]
 
 
 def main():
     path = probe.path_from_arguments()
     done = 0
-    for source in (whole_and_cut, counts_too_large, long_lines):
+    for source in (whole_and_cut, lengths_too_large, other_parts, long_lines, many_lines):
         for name, data, expected in source():
             seen = probe.lines_of(path, data)
             if seen != expected:

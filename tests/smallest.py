@@ -9,6 +9,7 @@ Usage: smallest.py [path of probe [path of mktree]]. Exits with status 1 at the 
 """
 
 import re
+import shlex
 import sys
 from collections import Counter
 from dataclasses import dataclass
@@ -73,9 +74,12 @@ def stop(command, text):
 # ---------------------------------------------------------------------------- the page
 
 def expanded(text, variables):
-    """The words of a command, with its variable and $(yes W | head -n N) put in."""
+    """A command's text with its variable and $(yes W | head -n N) put in."""
     text = re.sub(r"\$\(yes (\w+) \| head -n (\d+)\)", lambda m: " ".join([m[1]] * int(m[2])), text)
-    text = re.sub(r"\$(\w+)", lambda m: variables[m[1]], text)      # None is a TypeError
+    return re.sub(r"\$(\w+)", lambda m: variables[m[1]], text)      # None is a TypeError
+
+
+def hexadecimal(text):
     return [int(word, 16) for word in text.split()]
 
 
@@ -83,7 +87,12 @@ def input_of(command, variables):
     """The program that a command runs and the bytes that it gives to it."""
     found = re.fullmatch(r"words ?(.*) \| (mktree|probe)", command.text)
     if found:
-        return found[2], probe.pack(expanded(found[1], variables))
+        return found[2], probe.pack(hexadecimal(expanded(found[1], variables)))
+    found = re.fullmatch(r"request (.*) \| probe", command.text)
+    if found:
+        number, *parts = shlex.split(expanded(found[1], variables))
+        laid = [word for part in parts for word in probe.part_of(hexadecimal(part))]
+        return "probe", probe.pack([int(number, 16), len(parts), *laid])
     found = re.fullmatch(r"printf (\w+) \| mktree", command.text)
     if found:
         return "mktree", found[1].encode()
@@ -109,38 +118,17 @@ def examples():
 
 # ---------------------------------------------------------------------------- requests taken apart
 
-class Words:
-    """The words of one request, taken from the front."""
-
-    def __init__(self, data):
-        self.words = [int.from_bytes(data[at:at + 4], "little") for at in range(0, len(data), 4)]
-        self.at = 0
-
-    def word(self):
-        self.at += 1
-        return self.words[self.at - 1]
-
-    def run(self):
-        return [self.word() for _ in range(self.word())]
-
-    def bytes(self):
-        length = self.word()
-        data = b"".join(self.word().to_bytes(4, "little") for _ in range((length + 3) // 4))
-        return data[:length]
-
-
 def question_of(data):
     """A request as a question of probe.py."""
-    it = Words(data)
-    shapes = {1: ("read", it.run), 2: ("lookup", it.run, it.word), 3: ("generate", it.run, it.run), 4: ("walk bytes", it.bytes, it.word),
-              5: ("decode", it.run, it.word, it.run), 6: ("encode", it.run, it.word, it.run), 7: ("check", it.run, it.run),
-              8: ("step", it.run, it.run, it.bytes, it.word), 9: ("list", it.run, it.run, it.bytes, it.run), 10: ("walk", it.run, it.word)}
-    request = it.word()
-    name, *parts = shapes[request]
-    question = (name, *[take() for take in parts])
-    if it.at != len(it.words):
+    number, count, *rest = probe.words_of(data)
+    parts = []
+    for _ in range(count):
+        length, *rest = rest
+        parts.append(probe.pack(rest)[:length])
+        rest = rest[(length + 3) // 4:]
+    if rest:
         raise ValueError("more than one request")
-    return question
+    return probe.question_of(number, parts)
 
 
 # ---------------------------------------------------------------------------- what is returned and left
@@ -237,7 +225,7 @@ def mktree_cases(path, command, cause, data):
     check_returned(cause, *refusal)
     if len(data) % 4 != 0:
         return []
-    words = Words(data).words
+    words = probe.words_of(data)
     questions = table_questions(words) if cause in FAULTY_TABLE else [("generate", words, [0xFFFFFFFF] * MOST_TREE_WORDS)]
     return [Case(command, cause, question, refusal=refusal) for question in questions]
 

@@ -1,11 +1,10 @@
-"""Random and altered request streams for probe: each must end, without a fault, with the lines that probe-format.md asks for.
+"""Random and altered request streams for probe: each must end, without a fault, with the lines that docs/probe.md asks for.
 
-Usage: probe_fuzz.py streams [path of probe]. The framing is written here from probe-format.md; whole requests get the second
-implementation's line. It also shows that mistakes in the framing would give other lines for some of these streams.
+Usage: probe_fuzz.py streams [path of probe]. The form of requests is written here from docs/probe.md; whole requests get the second
+implementation's line. It also shows that mistakes in taking requests apart would give other lines for some of these streams.
 """
 
 import random
-import struct
 import sys
 from collections import Counter
 from pathlib import Path
@@ -18,15 +17,13 @@ from second import examples
 from second.lines import line_of
 
 SEED = 15
-RUN, WORD, BYTES = "run", "word", "bytes"
-FORMS = {1: ("read", RUN), 2: ("lookup", RUN, WORD), 3: ("generate", RUN, RUN), 4: ("walk bytes", BYTES, WORD),
-         5: ("decode", RUN, WORD, RUN), 6: ("encode", RUN, WORD, RUN), 7: ("check", RUN, RUN),
-         8: ("step", RUN, RUN, BYTES, WORD), 9: ("list", RUN, RUN, BYTES, RUN), 10: ("walk", RUN, WORD)}
-MISTAKES = ("trailing bytes are dropped", "the stop is counted in requests", "bytes are not padded", "a count is cut to 30 bits",
-            "the low byte of the number is enough", "a request may end a word early", "no limit of bytes")
+MOST_PARTS = 8
+MISTAKES = ("trailing bytes are dropped", "the stop is counted in requests", "bytes are not padded", "a length is cut to 30 bits",
+            "the low byte of the number is enough", "a request may end a word early", "no limit of bytes", "no limit of parts",
+            "a part must be whole words", "a part that is not taken is not there", "a part that is not there stops")
 
 
-# ---------------------------------------------------------------------------- the framing
+# ---------------------------------------------------------------------------- the form of requests
 
 class NotWhole(Exception):
     """The request's words run out."""
@@ -36,27 +33,41 @@ class Words:
     """The whole words of an input, taken from the front."""
 
     def __init__(self, data, mistake):
-        self.words = struct.unpack(f"<{len(data) // 4}I", data[:len(data) // 4 * 4])
+        self.words = probe.words_of(data)
         self.at = 0
         self.mistake = mistake
 
     def take(self, count):
         if self.at + count > len(self.words) + (self.mistake == "a request may end a word early"):
             raise NotWhole
-        taken = list(self.words[self.at:self.at + count])
+        taken = self.words[self.at:self.at + count]
         self.at += count
         return taken
 
-    def take_part(self, form):
-        (first,) = self.take(1) or [0]
-        if form == WORD:
-            return first
-        if self.mistake == "a count is cut to 30 bits":
-            first &= 0x3FFFFFFF
-        if form == RUN:
-            return self.take(first)
-        padded = self.take(first // 4 if self.mistake == "bytes are not padded" else (first + 3) // 4)
-        return probe.pack(padded)[:first]
+    def take_part(self):
+        """The bytes of a part."""
+        (length,) = self.take(1) or [0]
+        if self.mistake == "a length is cut to 30 bits":
+            length &= 0x3FFFFFFF
+        if self.mistake == "a part must be whole words" and length % 4 != 0:
+            raise NotWhole
+        padded = self.take(length // 4 if self.mistake == "bytes are not padded" else (length + 3) // 4)
+        return probe.pack(padded)[:length]
+
+    def take_request(self):
+        """The request's number and its parts."""
+        (number,) = self.take(1)
+        (count,) = self.take(1) or [0]
+        if self.mistake == "the low byte of the number is enough":
+            number &= 0xFF
+        if not 1 <= number <= len(probe.NAMES) or count > MOST_PARTS and self.mistake != "no limit of parts":
+            raise NotWhole
+        taken = len(probe.FORMS[probe.NAMES[number - 1]])
+        if self.mistake == "a part that is not taken is not there":
+            count = min(count, taken)
+        if self.mistake == "a part that is not there stops" and count < taken:
+            raise NotWhole
+        return number, [self.take_part() for _ in range(count)]
 
 
 def framed(data, mistake=None):
@@ -67,12 +78,8 @@ def framed(data, mistake=None):
     words, questions = Words(data, mistake), []
     while words.at < len(words.words):
         start = words.at
-        number = words.take(1)[0] & (0xFF if mistake == "the low byte of the number is enough" else 0xFFFFFFFF)
         try:
-            if number not in FORMS:
-                raise NotWhole
-            name, *forms = FORMS[number]
-            questions.append((name, *(words.take_part(form) for form in forms)))
+            questions.append(probe.question_of(*words.take_request()))
         except NotWhole:
             return questions, len(questions) if mistake == "the stop is counted in requests" else start
     # "after a whole request they count as a request that is not whole, which begins there"
@@ -96,6 +103,21 @@ def small_words(rng):
     """Words that are likely to be numbers of requests and small counts."""
     words = [rng.choice([rng.randrange(13), rng.randrange(6), 0, 1, rng.getrandbits(32)]) for _ in range(rng.randrange(40))]
     return probe.pack(words) + rng.randbytes(rng.choice([0, 0, 0, 1, 3]))
+
+
+def some_request(rng):
+    """A request's words; now and then with a part more or less, or one that ends within a word."""
+    name, *parts = some_question(rng)
+    how = rng.randrange(8)
+    if how == 0:
+        parts += [rng.randbytes(rng.randrange(6)) for _ in range(rng.randrange(9))]
+    if how == 1:
+        parts = parts[:rng.randrange(len(parts) + 1)]
+    if how == 2:
+        at = rng.randrange(len(parts))
+        part = parts[at] if isinstance(parts[at], bytes) else probe.pack(parts[at] if isinstance(parts[at], list) else [parts[at]])
+        parts[at] = part + rng.randbytes(rng.randint(1, 3))
+    return probe.request_of((name, *parts))
 
 
 def some_question(rng):
@@ -130,7 +152,7 @@ def altered(rng, data):
 
 
 def altered_requests(rng):
-    data = b"".join(probe.pack(probe.request_of(some_question(rng))) for _ in range(rng.randint(1, 5)))
+    data = b"".join(probe.pack(some_request(rng)) for _ in range(rng.randint(1, 5)))
     for _ in range(rng.choice([0, 1, 1, 2, 4])):
         data = altered(rng, data)
     return data
@@ -171,7 +193,7 @@ def main():
         sys.exit(f"no stream shows: {sorted(set(MISTAKES) - noticed)}")
     probe.require_enough(tally, {"stopped": count // 4, "ended": count // 10, "lines": count})
     print(f"probe_fuzz good: {tally['streams']} streams, {tally['lines']} lines; stopped: {tally['stopped']}, whole: {tally['ended']}; "
-          f"faults 0; {len(noticed)} of {len(MISTAKES)} framing mistakes noticed")
+          f"faults 0; {len(noticed)} of {len(MISTAKES)} mistakes noticed")
 
 
 if __name__ == "__main__":

@@ -3,6 +3,7 @@
 use libc::STDIN_FILENO;
 use libc::STDOUT_FILENO;
 use tree::Generated;
+use words::Cause;
 ghost use Prim.Native.Nat.{_≤_};
 ghost use lib.ListN.{length};
 
@@ -13,9 +14,9 @@ const MOST_BYTES: usize = 65536;
 const MOST_WORDS: usize = 16384;
 
 // Prints the line of a refusal.
-fn print_refusal(number: u32, place: u32, word: u32) {
+fn print_refusal(cause: Cause) {
     let mut line = [0u8; 64];
-    let end = text::put_refusal(&mut line, 0, number, place, word);
+    let end = text::put_refusal(&mut line, 0, cause.number, cause.place, cause.word);
     io::write_all(STDOUT_FILENO, &line[..end]);
 }
 
@@ -47,11 +48,10 @@ fn print_tree(words: &[u32], count: u32) {
 // Prints the tree of a table.
 fn print_tree_of(table: &[u32]) {
     let mut words = [0u32; MOST_WORDS];
-    match tree::generate(table, &mut words) {
+    let answer = tree::generate(table, &mut words);
+    match answer {
         Generated::Words(count) => print_tree(&words, count),
-        Generated::NoFit => print_refusal(5, 0, 0),
-        Generated::Ambiguous(word) => print_refusal(6, 0, word),
-        Generated::Refused(number, place) => print_refusal(number, place, 0),
+        _ => print_refusal(answer.cause()),
     }
 }
 
@@ -59,11 +59,12 @@ fn main() {
     // one byte more, to see that there is more
     let mut bytes = [0u8; MOST_BYTES + 1];
     let got = io::read_full(STDIN_FILENO, &mut bytes);
-    if !input::is_table(&bytes[..got]) {
-        print_refusal(1, 0, 0);
+    if !words::is_table(&bytes[..got]) {
+        // bytes that cannot be a table have no header
+        print_refusal(Cause::of(1, 0, 0));
         return;
     }
     let mut space = [0u32; MOST_WORDS];
-    let n = input::words_of(&bytes[..got], &mut space);
+    let n = words::words_of(&bytes[..got], &mut space);
     print_tree_of(&space[..n]);
 }

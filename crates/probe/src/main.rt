@@ -1,10 +1,9 @@
 // Answers the requests on standard input, each by one line, until the input ends or a request stops
-// it. The libraries decide what a request is, what its answer is and how a number is written.
+// it. The libraries decide what an answer is and how a number is written. The functions here are
+// proved safe; what they print is tested.
 use image::HalfwordAddress;
 use image::Listed;
 use image::Stepped;
-use input::Part;
-use input::Request;
 use libc::STDIN_FILENO;
 use libc::STDOUT_FILENO;
 use operands::Decoding;
@@ -14,456 +13,428 @@ use table::Answer;
 use tree::Checked;
 use tree::Generated;
 use walker::Walked;
-ghost use mathlib.Core.List.{_++_};
+use words::Cause;
 ghost use mathlib.Core.Path.{_≡_};
-ghost use Prim.Native.Nat.{_*_, _≤_, _<_, _^_};
-ghost use lib.ListN.{length, drop};
+ghost use lib.ListN.{length};
 
 // The most that is taken from standard input.
 const MOST_BYTES: usize = 1048576;
 
 const MOST_WORDS: usize = 262144;
 
-// The room that a word of a buffer takes on a line, with the line's end after it.
-const WORD_AND_END: usize = 10;
+// Requests are numbered from 1.
+const LAST_NUMBER: u32 = 10;
 
-// A space and a number.
-fn put_number(line: &mut [u8], at: usize, n: u32) -> usize
-    requires { ⌜ at ≤ length (now line) ⌝ }
-    ensures { λ r. ⌜ r ≤ length (now (line .exit)) ⌝ }
-{
-    let next = text::put_byte(line, at, b' ');
-    text::put_decimal(line, next, n)
+const MOST_PARTS: u32 = 8;
+
+// The index of each part's first word, which says how many bytes it has. A part that a request does
+// not have is at the end of the words, where nothing is.
+type Parts = [usize; 8];
+
+// What is asked, and the index after it; that is 0 if the request stops the program.
+struct Request {
+    number: u32,
+    parts: Parts,
+    next: usize,
 }
 
-// A space and a word.
-fn put_word(line: &mut [u8], at: usize, w: u32) -> usize
-    requires { ⌜ at ≤ length (now line) ⌝ }
-    ensures { λ r. ⌜ r ≤ length (now (line .exit)) ⌝ }
-{
-    let next = text::put_byte(line, at, b' ');
-    text::put_hex(line, next, w)
+// The index of the parts of the request at an index; 0 if its number is not known, it has too many
+// of them, or the words end before them.
+fn parts_at(ws: &[u32], at: usize) -> usize {
+    if ws.len() <= at {
+        return 0;
+    }
+    let number = ws[at];
+    let second = at + 1;
+    if number < 1 || LAST_NUMBER < number {
+        return 0;
+    }
+    if ws.len() <= second {
+        return 0;
+    }
+    if MOST_PARTS < ws[second] {
+        return 0;
+    }
+    second + 1
 }
 
-// What a line begins with: the request's number, then the refusal's number, place and word, which
-// are zero where nothing is refused.
-fn put_head(line: &mut [u8], request: u32, number: u32, place: u32, word: u32) -> usize
-    ensures { λ r. ⌜ r ≤ length (now (line .exit)) ⌝ }
-{
-    let first = text::put_decimal(line, 0, request);
-    let second = put_number(line, first, number);
-    let third = put_number(line, second, place);
-    put_word(line, third, word)
+// The index after the part at an index, with its padding; 0 if the words do not hold all of it, or
+// did not hold the one before it.
+fn after_part(ws: &[u32], at: usize) -> usize {
+    if at == 0 {
+        return 0;
+    }
+    if ws.len() <= at {
+        return 0;
+    }
+    let first = at + 1;
+    let padded = (words::word_at(ws, at) as usize + 3) / 4;
+    if ws.len() - first < padded {
+        return 0;
+    }
+    first + padded
 }
 
-// The line of a result that is a number, such as an entry.
-fn put_result(line: &mut [u8], request: u32, result: u32) -> usize
-    ensures { λ r. ⌜ r ≤ length (now (line .exit)) ⌝ }
-{
-    let head = put_head(line, request, 0, 0, 0);
-    put_number(line, head, result)
+// The request at an index.
+fn request_at(ws: &[u32], at: usize) -> Request {
+    let mut parts = [ws.len(); 8];
+    let mut next = parts_at(ws, at);
+    let asked = if next == 0 {
+        0
+    } else {
+        words::word_at(ws, next - 1)
+    };
+    let count = words::lesser(asked as usize, 8);
+    let mut i = 0;
+    while i < count {
+        parts[i] = next;
+        next = after_part(ws, next);
+        i += 1;
+    }
+    Request {
+        number: words::word_at(ws, at),
+        parts,
+        next,
+    }
 }
 
-// The line of the answer nothing.
-fn put_nothing(line: &mut [u8], request: u32) -> usize
-    ensures { λ r. ⌜ r ≤ length (now (line .exit)) ⌝ }
-{
-    let head = put_head(line, request, 0, 0, 0);
-    text::put_bytes(line, head, b" nothing")
+// The whole words of a part.
+fn words_in(ws: &[u32], part: usize) -> &[u32] {
+    if ws.len() <= part {
+        return &ws[..0];
+    }
+    let first = part + 1;
+    let size = words::word_at(ws, part) as usize / 4;
+    let end = first + words::lesser(size, ws.len() - first);
+    &ws[first..end]
 }
 
-// Ends a line and writes it. Where it cannot be written there is nobody to tell.
-fn write_line(line: &mut [u8], at: usize)
-    requires { ⌜ at ≤ length (now line) ⌝ }
-{
-    let end = text::put_byte(line, at, b'\n');
-    io::write_all(STDOUT_FILENO, &line[..end]);
+// The bytes of a part.
+fn bytes_in(bytes: &[u8], part: usize) -> &[u8] {
+    if bytes.len() / 4 <= part {
+        return &bytes[..0];
+    }
+    let first = part * 4 + 4;
+    let size = words::word_in(bytes, part) as usize;
+    let end = first + words::lesser(size, bytes.len() - first);
+    &bytes[first..end]
 }
 
-// Puts words, each after a space. What the line holds is written out whenever it would get too long.
-fn write_words(line: &mut [u8], at: usize, words: &[u32]) -> usize
-    requires { ⌜ at ≤ length (now line) ⌝ }
-    ensures { λ r. ⌜ r ≤ length (now (line .exit)) ⌝ }
-{
-    let mut next = at;
+// The number that a part is: its first word, or 0.
+fn number_in(ws: &[u32], part: usize) -> u32 {
+    words::word_at(words_in(ws, part), 0)
+}
+
+// A buffer to lend: a copy of a part's whole words, since the other parts are lent at the same time.
+fn lent<'a>(room: &'a mut [u32], bytes: &[u8], part: usize) -> &'a mut [u32] {
+    let size = words::words_of(bytes_in(bytes, part), room);
+    let end = words::lesser(size, room.len());
+    &mut room[0..end]
+}
+
+// The first bytes, and the first words.
+fn first_bytes(bytes: &[u8], n: usize) -> &[u8] {
+    let end = words::lesser(n, bytes.len());
+    &bytes[0..end]
+}
+
+fn first_words(ws: &[u32], n: usize) -> &[u32] {
+    let end = words::lesser(n, ws.len());
+    &ws[0..end]
+}
+
+// Writes the page's first bytes. Where that fails there is nobody to tell.
+fn flush(page: &[u8], at: usize) {
+    io::write_all(STDOUT_FILENO, first_bytes(page, at));
+}
+
+// Puts bytes on the page; one that has no room for them is written out first.
+fn put(page: &mut [u8], at: usize, bytes: &[u8]) -> usize {
+    let end = text::put_bytes(page, at, bytes);
+    if at < end {
+        return end;
+    }
+    flush(page, at);
+    text::put_bytes(page, 0, bytes)
+}
+
+// A number in decimal.
+fn put_decimal(page: &mut [u8], at: usize, n: u32) -> usize {
+    let mut digits = [0u8; 10];
+    let end = text::put_decimal(&mut digits, 0, n);
+    put(page, at, first_bytes(&digits, end))
+}
+
+// A word in eight digits.
+fn put_digits(page: &mut [u8], at: usize, w: u32) -> usize {
+    let mut digits = [0u8; 8];
+    text::put_hex(&mut digits, 0, w);
+    put(page, at, &digits)
+}
+
+// A space and a number, in decimal.
+fn put_number(page: &mut [u8], at: usize, n: u32) -> usize {
+    let next = put(page, at, b" ");
+    put_decimal(page, next, n)
+}
+
+// A space and a word, in eight digits.
+fn put_word(page: &mut [u8], at: usize, w: u32) -> usize {
+    let next = put(page, at, b" ");
+    put_digits(page, next, w)
+}
+
+// Why something is refused, or zeros.
+fn put_cause(page: &mut [u8], at: usize, cause: Cause) -> usize {
+    let number = put_number(page, at, cause.number);
+    let place = put_number(page, number, cause.place);
+    put_word(page, place, cause.word)
+}
+
+// The words of a buffer after a call.
+fn put_buffer(page: &mut [u8], at: usize, words: &[u32]) -> usize {
+    let mut next = put(page, at, b" |");
     let mut i = 0;
     while i < words.len() {
-        if line.len() - next < WORD_AND_END {
-            io::write_all(STDOUT_FILENO, &line[..next]);
-            next = 0;
-        }
-        next = put_word(line, next, words[i]);
+        next = put_word(page, next, words[i]);
         i += 1;
     }
     next
 }
 
-// Ends a line with the words of a buffer, and writes it.
-fn write_buffer(line: &mut [u8], at: usize, words: &[u32])
-    requires { ⌜ at ≤ length (now line) ⌝ }
-{
-    let bar = text::put_bytes(line, at, b" |");
-    let end = write_words(line, bar, words);
-    write_line(line, end);
-}
-
-// Reads a table and puts what comes of it.
-fn put_reading(line: &mut [u8], words: &[u32]) -> usize
-    ensures { λ r. ⌜ r ≤ length (now (line .exit)) ⌝ }
-{
-    let reading = table::read(words);
-    let answer = reading.answer;
-    match answer {
-        Answer::Accepted { width, count } => {
-            let head = put_head(line, 1, 0, 0, 0);
-            let next = put_number(line, head, width);
-            put_number(line, next, count)
-        }
-        Answer::Refused { number, place } => { put_head(line, 1, number, place, 0) }
-    }
+// Where the program stops.
+fn put_stopped(page: &mut [u8], at: usize, index: u32) -> usize {
+    let next = put(page, at, b"stopped");
+    let end = put_number(page, next, index);
+    put(page, end, b"\n")
 }
 
 // Request 1.
-fn answer_read(words: &[u32]) {
-    let mut line = [0u8; 64];
-    let end = put_reading(&mut line, words);
-    write_line(&mut line, end);
-}
-
-// Looks a word up and puts what comes of it.
-fn put_lookup(line: &mut [u8], words: &[u32], word: u32) -> usize
-    ensures { λ r. ⌜ r ≤ length (now (line .exit)) ⌝ }
-{
-    match selection::lookup(words, word) {
-        Selected::Entry(entry) => put_result(line, 2, entry),
-        Selected::Nothing => put_nothing(line, 2),
-        Selected::Ambiguous(w) => put_head(line, 2, 6, 0, w),
-        Selected::TooWide => put_head(line, 2, 7, 0, 0),
-        Selected::Refused(number, place) => put_head(line, 2, number, place, 0),
+fn put_read(page: &mut [u8], at: usize, ws: &[u32], parts: Parts) -> usize {
+    let reading = table::read(words_in(ws, parts[0]));
+    let answer = reading.answer;
+    let next = put_cause(page, at, answer.cause());
+    match answer {
+        Answer::Accepted { width, count } => {
+            let end = put_number(page, next, width);
+            put_number(page, end, count)
+        }
+        _ => next,
     }
 }
 
 // Request 2.
-fn answer_lookup(words: &[u32], word: u32) {
-    let mut line = [0u8; 64];
-    let end = put_lookup(&mut line, words, word);
-    write_line(&mut line, end);
-}
-
-// Copies words to the beginning of a longer run.
-fn copy(from: &[u32], out: &mut [u32])
-    requires { ⌜ length (now from) ≤ length (now out) ⌝ }
-    ensures { λ r. ⌜ now (out .exit) ≡ now (from .entry) ++ drop (length (now (from .entry))) (now (out .entry)) ⌝ }
-{
-    let mut i = 0;
-    while i < from.len() {
-        out[i] = from[i];
-        i += 1;
+fn put_lookup(page: &mut [u8], at: usize, ws: &[u32], parts: Parts) -> usize {
+    let answer = selection::lookup(words_in(ws, parts[0]), number_in(ws, parts[1]));
+    let next = put_cause(page, at, answer.cause());
+    match answer {
+        Selected::Entry(entry) => put_number(page, next, entry),
+        Selected::Nothing => put(page, next, b" nothing"),
+        _ => next,
     }
 }
 
-// Generates a tree into a buffer and puts what comes of it, but for the buffer.
-fn put_generating(line: &mut [u8], words: &[u32], out: &mut [u32]) -> usize
-    ensures { λ r. ⌜ r ≤ length (now (line .exit)) ⌝ }
-{
-    match tree::generate(words, out) {
-        Generated::Words(count) => put_result(line, 3, count),
-        Generated::NoFit => put_head(line, 3, 5, 0, 0),
-        Generated::Ambiguous(w) => put_head(line, 3, 6, 0, w),
-        Generated::Refused(number, place) => put_head(line, 3, number, place, 0),
+// Request 3.
+fn put_generated(page: &mut [u8], at: usize, answer: Generated) -> usize {
+    let next = put_cause(page, at, answer.cause());
+    match answer {
+        Generated::Words(count) => put_number(page, next, count),
+        _ => next,
     }
 }
 
-// Request 3. The buffer is copied, since the words that it came with are lent at the same time.
-fn answer_generate(words: &[u32], given: &[u32], room: &mut [u32])
-    requires { ⌜ length (now given) ≤ length (now room) ⌝ }
-{
-    let n = given.len();
-    copy(given, room);
-    let mut line = io::buffer();
-    let head = put_generating(&mut line, words, &mut room[..n]);
-    write_buffer(&mut line, head, &room[..n]);
+fn put_generate(page: &mut [u8], at: usize, ws: &[u32], parts: Parts, out: &mut [u32]) -> usize {
+    let answer = tree::generate(words_in(ws, parts[0]), out);
+    let end = put_generated(page, at, answer);
+    put_buffer(page, end, out)
 }
 
 // Request 4.
-fn answer_simulate(tree: &[u8], word: u32) {
-    let mut line = [0u8; 64];
-    let head = put_head(&mut line, 4, 0, 0, 0);
-    let result = kilnumber::kilnumber_walk(tree, word);
-    let next = put_word(&mut line, head, (result >> 32) as u32);
-    let end = text::put_hex(&mut line, next, (result % 4294967296) as u32);
-    write_line(&mut line, end);
+fn put_simulate(page: &mut [u8], at: usize, bytes: &[u8], ws: &[u32], parts: Parts) -> usize {
+    let result = kilnumber::kilnumber_walk(bytes_in(bytes, parts[0]), number_in(ws, parts[1]));
+    let next = put(page, at, b" 0 0 00000000");
+    let high = put_word(page, next, (result >> 32) as u32);
+    put_digits(page, high, (result % 4294967296) as u32)
 }
 
-// Decodes a word into a buffer and puts what comes of it, but for the buffer.
-fn put_decoding(line: &mut [u8], words: &[u32], word: u32, out: &mut [u32]) -> usize
-    ensures { λ r. ⌜ r ≤ length (now (line .exit)) ⌝ }
-{
-    match operands::decode(words, word, out) {
-        Decoding::Entry(entry, _) => put_result(line, 5, entry),
-        Decoding::Nothing => put_nothing(line, 5),
-        Decoding::Ambiguous(w) => put_head(line, 5, 6, 0, w),
-        Decoding::TooWide => put_head(line, 5, 7, 0, 0),
-        Decoding::NoRoom => put_head(line, 5, 10, 0, 0),
-        Decoding::Refused(number, place) => put_head(line, 5, number, place, 0),
+// Request 5.
+fn put_decoded(page: &mut [u8], at: usize, answer: Decoding) -> usize {
+    let next = put_cause(page, at, answer.cause());
+    match answer {
+        Decoding::Entry(entry, _) => put_number(page, next, entry),
+        Decoding::Nothing => put(page, next, b" nothing"),
+        _ => next,
     }
 }
 
-// Request 5, with a copy of the buffer as for request 3.
-fn answer_decode(words: &[u32], word: u32, given: &[u32], room: &mut [u32])
-    requires { ⌜ length (now given) ≤ length (now room) ⌝ }
-{
-    let n = given.len();
-    copy(given, room);
-    let mut line = io::buffer();
-    let head = put_decoding(&mut line, words, word, &mut room[..n]);
-    write_buffer(&mut line, head, &room[..n]);
-}
-
-// Encodes values and puts what comes of it.
-fn put_encoding(line: &mut [u8], words: &[u32], entry: u32, values: &[u32]) -> usize
-    ensures { λ r. ⌜ r ≤ length (now (line .exit)) ⌝ }
-{
-    match operands::encode(words, entry, values) {
-        Encoding::Word(w) => {
-            let head = put_head(line, 6, 0, 0, 0);
-            put_word(line, head, w)
-        }
-        Encoding::NotSelected(w) => put_head(line, 6, 13, 0, w),
-        Encoding::Misfit(index) => put_head(line, 6, 12, index, 0),
-        Encoding::NoEntry => put_head(line, 6, 11, 0, 0),
-        Encoding::Refused(number, place) => put_head(line, 6, number, place, 0),
-    }
+fn put_decode(page: &mut [u8], at: usize, ws: &[u32], parts: Parts, out: &mut [u32]) -> usize {
+    let answer = operands::decode(words_in(ws, parts[0]), number_in(ws, parts[1]), out);
+    let end = put_decoded(page, at, answer);
+    put_buffer(page, end, out)
 }
 
 // Request 6.
-fn answer_encode(words: &[u32], entry: u32, values: &[u32]) {
-    let mut line = [0u8; 64];
-    let end = put_encoding(&mut line, words, entry, values);
-    write_line(&mut line, end);
-}
-
-// Checks a tree and puts what comes of it.
-fn put_check(line: &mut [u8], words: &[u32], tree: &[u32]) -> usize
-    ensures { λ r. ⌜ r ≤ length (now (line .exit)) ⌝ }
-{
-    match tree::check(words, tree) {
-        Checked::Yes => {
-            let head = put_head(line, 7, 0, 0, 0);
-            text::put_bytes(line, head, b" yes")
-        }
-        Checked::No => put_head(line, 7, 14, 0, 0),
-        Checked::Refused(number, place) => put_head(line, 7, number, place, 0),
+fn put_encode(page: &mut [u8], at: usize, ws: &[u32], parts: Parts) -> usize {
+    let entry = number_in(ws, parts[1]);
+    let answer = operands::encode(words_in(ws, parts[0]), entry, words_in(ws, parts[2]));
+    let next = put_cause(page, at, answer.cause());
+    match answer {
+        Encoding::Word(w) => put_word(page, next, w),
+        _ => next,
     }
 }
 
 // Request 7.
-fn answer_check(words: &[u32], tree: &[u32]) {
-    let mut line = [0u8; 64];
-    let end = put_check(&mut line, words, tree);
-    write_line(&mut line, end);
-}
-
-// The line of a step's item, and of a step at the image's end.
-fn put_item(line: &mut [u8], word: u32, next: u32) -> usize
-    ensures { λ r. ⌜ r ≤ length (now (line .exit)) ⌝ }
-{
-    let head = put_head(line, 8, 0, 0, 0);
-    let after = put_word(line, head, word);
-    put_number(line, after, next)
-}
-
-fn put_end(line: &mut [u8]) -> usize
-    ensures { λ r. ⌜ r ≤ length (now (line .exit)) ⌝ }
-{
-    let head = put_head(line, 8, 0, 0, 0);
-    text::put_bytes(line, head, b" end")
-}
-
-// Takes a step and puts what comes of it.
-fn put_step(line: &mut [u8], words: &[u32], tree: &[u32], image: &[u8], address: u32) -> usize
-    ensures { λ r. ⌜ r ≤ length (now (line .exit)) ⌝ }
-{
-    match image::step(words, tree, image, HalfwordAddress(address)) {
-        Stepped::Item(word, next) => put_item(line, word, next.0),
-        Stepped::End => put_end(line),
-        Stepped::BadTable => put_head(line, 8, 15, 0, 0),
-        Stepped::BadImage => put_head(line, 8, 16, 0, 0),
-        Stepped::BadTree => put_head(line, 8, 14, 0, 0),
-        Stepped::Refused(number, place) => put_head(line, 8, number, place, 0),
+fn put_check(page: &mut [u8], at: usize, ws: &[u32], parts: Parts) -> usize {
+    let answer = tree::check(words_in(ws, parts[0]), words_in(ws, parts[1]));
+    let next = put_cause(page, at, answer.cause());
+    match answer {
+        Checked::Yes => put(page, next, b" yes"),
+        _ => next,
     }
 }
 
 // Request 8.
-fn answer_step(words: &[u32], tree: &[u32], image: &[u8], address: u32) {
-    let mut line = [0u8; 64];
-    let end = put_step(&mut line, words, tree, image, address);
-    write_line(&mut line, end);
-}
-
-// Lists an image into a buffer and puts what comes of it, but for the buffer.
-fn put_listing(line: &mut [u8], words: &[u32], tree: &[u32], image: &[u8], out: &mut [u32]) -> usize
-    ensures { λ r. ⌜ r ≤ length (now (line .exit)) ⌝ }
-{
-    match image::list(words, tree, image, out) {
-        Listed::Items(count) => put_result(line, 9, count),
-        Listed::Full(address) => put_head(line, 9, 17, address.0, 0),
-        Listed::BadTable => put_head(line, 9, 15, 0, 0),
-        Listed::BadImage => put_head(line, 9, 16, 0, 0),
-        Listed::BadTree => put_head(line, 9, 14, 0, 0),
-        Listed::Refused(number, place) => put_head(line, 9, number, place, 0),
+fn put_step(page: &mut [u8], at: usize, bytes: &[u8], ws: &[u32], parts: Parts) -> usize {
+    let table = words_in(ws, parts[0]);
+    let tree = words_in(ws, parts[1]);
+    let address = HalfwordAddress(number_in(ws, parts[3]));
+    let answer = image::step(table, tree, bytes_in(bytes, parts[2]), address);
+    let next = put_cause(page, at, answer.cause());
+    match answer {
+        Stepped::Item(item, after) => {
+            let end = put_word(page, next, item);
+            put_number(page, end, after.0)
+        }
+        Stepped::End => put(page, next, b" end"),
+        _ => next,
     }
 }
 
-// Request 9, with a copy of the buffer as for request 3.
-fn answer_list(words: &[u32], tree: &[u32], image: &[u8], given: &[u32], room: &mut [u32])
-    requires { ⌜ length (now given) ≤ length (now room) ⌝ }
-{
-    let n = given.len();
-    copy(given, room);
-    let mut line = io::buffer();
-    let head = put_listing(&mut line, words, tree, image, &mut room[..n]);
-    write_buffer(&mut line, head, &room[..n]);
+// Request 9.
+fn put_listed(page: &mut [u8], at: usize, answer: Listed) -> usize {
+    let next = put_cause(page, at, answer.cause());
+    match answer {
+        Listed::Items(count) => put_number(page, next, count),
+        _ => next,
+    }
 }
 
-// Walks a tree and puts what comes of it.
-fn put_walk(line: &mut [u8], tree: &[u32], word: u32) -> usize
-    ensures { λ r. ⌜ r ≤ length (now (line .exit)) ⌝ }
-{
-    match walker::walk(tree, word) {
-        Walked::Entry(entry, count) => {
-            let next = put_result(line, 10, entry);
-            put_number(line, next, count)
-        }
-        Walked::Nothing(count) => {
-            let next = put_nothing(line, 10);
-            put_number(line, next, count)
-        }
-        Walked::BadTree => put_head(line, 10, 8, 0, 0),
-        Walked::TooWide => put_head(line, 10, 7, 0, 0),
-        Walked::Damaged(index) => put_head(line, 10, 9, index, 0),
-    }
+fn put_list(
+    page: &mut [u8],
+    at: usize,
+    bytes: &[u8],
+    ws: &[u32],
+    parts: Parts,
+    out: &mut [u32],
+) -> usize {
+    let table = words_in(ws, parts[0]);
+    let tree = words_in(ws, parts[1]);
+    let answer = image::list(table, tree, bytes_in(bytes, parts[2]), out);
+    let end = put_listed(page, at, answer);
+    put_buffer(page, end, out)
 }
 
 // Request 10.
-fn answer_walk(tree: &[u32], word: u32) {
-    let mut line = [0u8; 64];
-    let end = put_walk(&mut line, tree, word);
-    write_line(&mut line, end);
-}
-
-// The line of a request that stops the program.
-fn answer_stopped(at: u32) {
-    let mut line = [0u8; 64];
-    let next = text::put_bytes(&mut line, 0, b"stopped ");
-    let end = text::put_decimal(&mut line, next, at);
-    write_line(&mut line, end);
-}
-
-// The words of a part.
-fn words_in(ws: &[u32], part: Part) -> &[u32]
-    requires { ⌜ (part .first ≤ part .after) × (part .after ≤ length (now ws)) ⌝ }
-    ensures { λ r. ⌜ length (now r) ≤ length (now (ws .entry)) ⌝ }
-{
-    let first = part.first;
-    let after = part.after;
-    &ws[first..after]
-}
-
-// The bytes of a part that counts bytes.
-fn bytes_in(bytes: &[u8], part: Part) -> &[u8]
-    requires { ⌜ (part .first ≤ part .after) × (part .after ≤ length (now bytes)) ⌝ }
-{
-    let first = part.first;
-    let after = part.after;
-    &bytes[first..after]
-}
-
-// Answers the request at an index. The words are those of the bytes, and the room takes a copy of
-// any part of them.
-fn answer(bytes: &[u8], ws: &[u32], at: usize, room: &mut [u32])
-    requires { ⌜ (at < 2 ^ 32) × (length (now ws) ≤ length (now room)) × (length (now ws) * 4 ≤ length (now bytes)) ⌝ }
-{
-    match input::request_at(ws, at) {
-        Request::Read(table) => answer_read(words_in(ws, table)),
-        Request::Lookup(table, word) => answer_lookup(words_in(ws, table), word),
-        Request::Generate(table, buffer) => {
-            answer_generate(words_in(ws, table), words_in(ws, buffer), room)
+fn put_walk(page: &mut [u8], at: usize, ws: &[u32], parts: Parts) -> usize {
+    let answer = walker::walk(words_in(ws, parts[0]), number_in(ws, parts[1]));
+    let next = put_cause(page, at, answer.cause());
+    match answer {
+        Walked::Entry(entry, count) => {
+            let end = put_number(page, next, entry);
+            put_number(page, end, count)
         }
-        Request::Simulate(tree, word, _) => answer_simulate(bytes_in(bytes, tree), word),
-        Request::Decode(table, word, buffer) => {
-            answer_decode(words_in(ws, table), word, words_in(ws, buffer), room)
+        Walked::Nothing(count) => {
+            let end = put(page, next, b" nothing");
+            put_number(page, end, count)
         }
-        Request::Encode(table, entry, values) => {
-            answer_encode(words_in(ws, table), entry, words_in(ws, values))
-        }
-        Request::Check(table, tree) => answer_check(words_in(ws, table), words_in(ws, tree)),
-        Request::Step(table, tree, image, address, _) => {
-            answer_step(
-                words_in(ws, table),
-                words_in(ws, tree),
-                bytes_in(bytes, image),
-                address,
-            )
-        }
-        Request::Items(table, tree, image, buffer) => {
-            let items = words_in(ws, buffer);
-            answer_list(
-                words_in(ws, table),
-                words_in(ws, tree),
-                bytes_in(bytes, image),
-                items,
-                room,
-            )
-        }
-        Request::Walk(tree, word) => answer_walk(words_in(ws, tree), word),
-        Request::Stopped => answer_stopped(at as u32),
+        _ => next,
     }
 }
 
-// Where to go on after the request at an index: at the next one, or at the end where this one stops
-// the program.
-fn next_at(ws: &[u32], at: usize, end: usize) -> usize
-    requires { ⌜ at < end ⌝ }
-    ensures { λ r. ⌜ at < r ⌝ }
-{
-    match input::request_at(ws, at) {
-        Request::Read(table) => table.after,
-        Request::Lookup(table, _) => table.after + 1,
-        Request::Generate(_, buffer) => buffer.after,
-        Request::Simulate(_, _, next) => next,
-        Request::Decode(_, _, buffer) => buffer.after,
-        Request::Encode(_, _, values) => values.after,
-        Request::Check(_, tree) => tree.after,
-        Request::Step(_, _, _, _, next) => next,
-        Request::Items(_, _, _, buffer) => buffer.after,
-        Request::Walk(tree, _) => tree.after + 1,
-        Request::Stopped => end,
+// What follows a request's number on its line.
+fn put_answer(
+    page: &mut [u8],
+    at: usize,
+    bytes: &[u8],
+    ws: &[u32],
+    request: Request,
+    room: &mut [u32],
+) -> usize {
+    let number = request.number;
+    let parts = request.parts;
+    match number {
+        1 => put_read(page, at, ws, parts),
+        2 => put_lookup(page, at, ws, parts),
+        3 => put_generate(page, at, ws, parts, lent(room, bytes, parts[1])),
+        4 => put_simulate(page, at, bytes, ws, parts),
+        5 => put_decode(page, at, ws, parts, lent(room, bytes, parts[2])),
+        6 => put_encode(page, at, ws, parts),
+        7 => put_check(page, at, ws, parts),
+        8 => put_step(page, at, bytes, ws, parts),
+        9 => put_list(page, at, bytes, ws, parts, lent(room, bytes, parts[3])),
+        10 => put_walk(page, at, ws, parts),
+        _ => at,
     }
 }
 
-// Answers every request that begins before the end.
-fn answer_all(bytes: &[u8], ws: &[u32], end: usize, room: &mut [u32])
-    requires { ⌜ (end < 2 ^ 32) × (length (now ws) ≤ length (now room)) × (length (now ws) * 4 ≤ length (now bytes)) ⌝ }
-{
+// The line of a request.
+fn put_line(
+    page: &mut [u8],
+    at: usize,
+    bytes: &[u8],
+    ws: &[u32],
+    request: Request,
+    room: &mut [u32],
+) -> usize {
+    let first = put_decimal(page, at, request.number);
+    let end = put_answer(page, first, bytes, ws, request, room);
+    put(page, end, b"\n")
+}
+
+// Puts a line for each request, up to one that stops the program. The words are those of the bytes.
+fn put_lines(page: &mut [u8], bytes: &[u8], ws: &[u32], room: &mut [u32]) -> usize {
+    if MOST_BYTES < bytes.len() {
+        return put_stopped(page, 0, 0);
+    }
+    // bytes that make no whole word count as one more, with which no request is whole
+    let end = (bytes.len() + 3) / 4;
     let mut at = 0;
-    while at < end {
-        answer(bytes, ws, at, room);
-        at = next_at(ws, at, end);
+    let mut index = 0;
+    while index < end {
+        let request = request_at(ws, index);
+        let next = request.next;
+        if next <= index {
+            return put_stopped(page, at, index as u32);
+        }
+        at = put_line(page, at, bytes, ws, request, room);
+        index = next;
     }
+    at
+}
+
+// Zeros. Their length is all that a proof sees of them.
+fn zero_bytes() -> [u8; MOST_BYTES + 1]
+    ensures { λ r. ⌜ 1048577 ≡ length r ⌝ }
+{
+    [0; MOST_BYTES + 1]
+}
+
+fn zero_words() -> [u32; MOST_WORDS]
+    ensures { λ r. ⌜ 262144 ≡ length r ⌝ }
+{
+    [0; MOST_WORDS]
 }
 
 fn main() {
-    // one byte more, to see that there is more
-    let mut bytes = [0u8; MOST_BYTES + 1];
+    // one byte more than is taken, to see that there is more
+    let mut bytes = zero_bytes();
     let got = io::read_full(STDIN_FILENO, &mut bytes);
-    if MOST_BYTES < got {
-        answer_stopped(0);
-        return;
-    }
-    let mut space = [0u32; MOST_WORDS];
-    let mut room = [0u32; MOST_WORDS];
-    let whole = input::words_of(&bytes[..got], &mut space);
-    // bytes that make no whole word count as one more, with which no request is whole
-    answer_all(&bytes[..got], &space[..whole], (got + 3) / 4, &mut room);
+    let asked = first_bytes(&bytes, got);
+    let mut space = zero_words();
+    let whole = words::words_of(asked, &mut space);
+    let mut room = zero_words();
+    let mut page = io::large_buffer();
+    let end = put_lines(&mut page, asked, first_words(&space, whole), &mut room);
+    flush(&page, end);
 }

@@ -3,3 +3,5 @@ pub mod Lists
 pub mod Bits
 pub mod Parts
 pub mod Bytes
+pub mod Filling
+pub mod Examples

@@ -4,7 +4,7 @@ ghost use Prim.Native.Nat.{ℕ, _+_, _*_, _%_, _^_, _≤_, min};
 ghost use lib.Dec.{ltb};
 ghost use lib.ListN.{length};
 ghost use Rattle.words.specs.Words.{word, part as partOf, run as runOf};
-ghost use Rattle.words.specs.Bytes.{wordOf, wordsOf};
+ghost use Rattle.words.specs.Bytes.{wordOf, wordsOf, Fills, isTable};
 ghost use Rattle.words.specs.Outcome.{causeBy};
 
 // The word at an index; 0 past the end.
@@ -82,6 +82,33 @@ pub fn word_in(bytes: &[u8], i: usize) -> u32
     } else {
         0
     }
+}
+
+// Writes the whole words of the bytes to the buffer's first words, as many as it takes, and answers
+// how many were written.
+pub fn words_of(bytes: &[u8], out: &mut [u32]) -> usize
+    ensures { λ r. ⌜ Fills (now (bytes .entry)) (now (out .entry)) (now (out .exit)) r ⌝ }
+{
+    let n = lesser(bytes.len() / 4, out.len());
+    let mut i = 0;
+    while i < n {
+        out[i] = word_in(bytes, i);
+        i += 1;
+    }
+    n
+}
+
+// The bytes of the longest table.
+const TABLE_BYTES: usize = 65536;
+
+// Whether bytes can be a table: whole words, and no more than the longest has.
+pub fn is_table(bytes: &[u8]) -> bool
+    ensures { λ r. ⌜ r ≡ isTable (now (bytes .entry)) ⌝ }
+{
+    if TABLE_BYTES < bytes.len() {
+        return false;
+    }
+    bytes.len() % 4 == 0
 }
 
 // What refuses a call, as document 01 lists it: the cause's number, and the place and the word returned with it. Zeros where there is

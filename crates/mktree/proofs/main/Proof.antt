@@ -1,5 +1,5 @@
 -- `mktree::main` is safe and ends. Assumes nothing.
-use Rattle.input.proofs.Words.{fills-within}
+use Rattle.words.proofs.Filling.{fills-within}
 use lib.Seq.{length-take-le}
 use mathlib.Core.Path.{sym}
 use borrow.Author.Needs.{needs}
@@ -20,6 +20,9 @@ slice-aggregate-is-table c = search needs
 
 is-table-requires : tie.Need-is-table-requires
 is-table-requires c κs = search needs
+
+of-requires : tie.Need-of-requires
+of-requires c κs = search needs
 
 print-refusal-requires : tie.Need-print-refusal-requires
 print-refusal-requires c κs = search needs
@@ -60,6 +63,7 @@ main-spec =
     array-share-prefix-bytes
     slice-aggregate-is-table
     is-table-requires
+    of-requires
     print-refusal-requires
     returns
     array-share-prefix-bytes-2

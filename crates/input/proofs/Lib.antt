@@ -1,3 +1,0 @@
-pub mod Words
-pub mod Asking
-pub mod Examples
