@@ -313,19 +313,19 @@ pub fn own(source: Source, entry: u32, w: u32) -> u32 {
     if entry < short { w & 0xffff0000 } else { w }
 }
 
-// Words of 32 bits: every upper half over the lower half 0 and over another, and every lower half
-// below one upper half, 65,536 words each.
+// Words of 32 bits: every upper half over a lower half, every lower half below an upper half, and
+// every upper half over the lower half 0, 65,536 words each.
 fn halves_at(n: u32, low: u32, high: u32) -> u32 {
     let half = n & 0xffff;
     match n >> 16 {
-        0 => half << 16,
-        1 => (half << 16) | low,
-        _ => half | high,
+        0 => (half << 16) | low,
+        1 => half | high,
+        _ => half << 16,
     }
 }
 
-// The words that are compared: those of 32 bits, with halves of a long entry; else every word of
-// the width.
+// The words that are compared: of 32 bits those with a half of a long entry, else every word of the
+// width.
 pub fn word_at(source: Source, n: u32) -> u32 {
     match source {
         Source::Mixed => halves_at(n, 0x8712, 0x56070000),

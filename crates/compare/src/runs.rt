@@ -20,16 +20,19 @@ fn say_values(values: &[u32]) {
     }
 }
 
+// An entry and its values.
+fn say_entry(entry: u32, values: &[u32]) {
+    say(b"entry ");
+    say_number(entry);
+    say(b", values");
+    say_values(values);
+}
+
 // What decoding says.
 fn say_decoding(table: &[u32], w: u32) {
     let mut values = [0u32; 8];
     match operands::decode(table, w, &mut values) {
-        Decoding::Entry(entry, count) => {
-            say(b"entry ");
-            say_number(entry);
-            say(b", values");
-            say_values(words_in(&values, count));
-        }
+        Decoding::Entry(entry, count) => say_entry(entry, words_in(&values, count)),
         Decoding::Nothing => say(b"nothing"),
         Decoding::Ambiguous(word) => say_refusal(6, 0, word),
         Decoding::TooWide => say_refusal(7, 0, 0),
