@@ -15,13 +15,19 @@ pub enum Source {
     Example1,
     Example4,
     Example5,
+    Default,
     Example6,
     Example7,
     Table1,
     Table2,
+    Significant,
+    Bld,
+    AddBefore,
+    AddAfter,
     Disjoint,
     Overlap,
     Mixed,
+    Packed,
 }
 
 // Document 01: 1- is the one entry.
@@ -103,6 +109,12 @@ fn example_5(w: u32) -> u32 {
     if b1 == 1 && b2 == 0 { 2 } else { NOTHING }
 }
 
+// 000, section 3.1, the first two patterns: "the default node should select A and the decision node
+// should use the second bit to check whether B should rather be selected".
+fn default_node(w: u32) -> u32 {
+    if w & 1 == 0 { 1 } else { 0 }
+}
+
 // 000, (6): "A is the default node since the bit patterns of B and C are both subsumed."
 fn example_6(w: u32) -> u32 {
     let b2 = (w >> 1) & 1;
@@ -137,35 +149,72 @@ fn table_1(w: u32) -> u32 {
     }
 }
 
+// 001, table II, the rows with 00 in front: A's conditions leave to E, F and G what they have.
+fn table_2_front_00(a: u32, c: u32) -> u32 {
+    if a == 3 {
+        return 6;
+    }
+    if a != 0 {
+        return 0;
+    }
+    match c {
+        1 => 4,
+        2 => 5,
+        _ => 0,
+    }
+}
+
 // 001, table II, with its column of exclusion conditions. No two of its rows, the conditions
 // counted, have a word in common.
 fn table_2(w: u32) -> u32 {
-    let top = (w >> 6) & 3;
     let a = (w >> 4) & 3;
     let c = w & 3;
-    if top == 0 && !(a == 0 && c != 0 && c != 3) && a != 3 {
-        return 0;
+    match (w >> 6) & 3 {
+        0 => table_2_front_00(a, c),
+        1 => if a == 3 { 6 } else { 1 },
+        2 => if c < 2 { 2 + c } else { NOTHING },
+        _ => NOTHING,
     }
-    if top == 1 && a != 3 {
-        return 1;
+}
+
+// 001, section IV-A: bits 0 and 3 are significant, and split the three entries. The other bits of
+// the one that is left must be its own.
+fn significant(w: u32) -> u32 {
+    let middle = (w >> 1) & 3;
+    match ((w >> 2) & 2) | (w & 1) {
+        // 0--0: 0100
+        0 => if middle == 2 { 0 } else { NOTHING },
+        // 0--1: 01-1
+        1 => if 2 <= middle { 1 } else { NOTHING },
+        // 1--0: 11-0
+        2 => if 2 <= middle { 2 } else { NOTHING },
+        // 1--1
+        _ => NOTHING,
     }
-    if top == 2 && c == 0 {
-        return 2;
-    }
-    if top == 2 && c == 1 {
-        return 3;
-    }
-    if top == 0 && a == 0 && c == 1 {
-        return 4;
-    }
-    if top == 0 && a == 0 && c == 2 {
-        return 5;
-    }
-    if (top == 0 || top == 1) && a == 3 {
-        6
+}
+
+// 002, figure 3: the codes 0xf800 + 16 * register + immediate, for 32 registers and immediates
+// below 8.
+fn bld(w: u32) -> u32 {
+    if 0xf800 <= w && w < 0xf800 + 16 * 32 && w % 16 < 8 {
+        0
     } else {
         NOTHING
     }
+}
+
+// 002, figure 4: 000011 in front.
+fn add(w: u32) -> bool {
+    w >> 10 == 3
+}
+
+// Four descriptions of one code, "duplicate" ones: none is more specific.
+fn add_before(w: u32) -> u32 {
+    if add(w) { AMBIGUOUS } else { NOTHING }
+}
+
+fn add_after(w: u32) -> u32 {
+    if add(w) { 0 } else { NOTHING }
 }
 
 // 003, figure 1 (a).
@@ -218,6 +267,14 @@ fn mixed(w: u32) -> u32 {
     }
 }
 
+// 004, section 2.2: "the 16-bit instruction 9284", "the 32-bit instruction cda9000f".
+fn packed(w: u32) -> u32 {
+    if w >> 16 == 0x9284 {
+        return 0;
+    }
+    if w == 0xcda9000f { 1 } else { NOTHING }
+}
+
 // What the other decoder of a table says of a word.
 pub fn select(source: Source, w: u32) -> u32 {
     match source {
@@ -229,38 +286,51 @@ pub fn select(source: Source, w: u32) -> u32 {
         Source::Example1 => example_1(w),
         Source::Example4 => example_4(w),
         Source::Example5 => example_5(w),
+        Source::Default => default_node(w),
         Source::Example6 => example_6(w),
         Source::Example7 => example_7(w),
         Source::Table1 => table_1(w),
         Source::Table2 => table_2(w),
+        Source::Significant => significant(w),
+        Source::Bld => bld(w),
+        Source::AddBefore => add_before(w),
+        Source::AddAfter => add_after(w),
         Source::Disjoint => disjoint(w),
         Source::Overlap => overlap(w),
         Source::Mixed => mixed(w),
+        Source::Packed => packed(w),
     }
 }
 
 // The word with the bits below the selected entry's own zero. Only 004 has entries that are short:
-// its first three.
+// three in its table 2, one of the two that it packs.
 pub fn own(source: Source, entry: u32, w: u32) -> u32 {
-    if let Source::Mixed = source {
-        if entry < 3 { w & 0xffff0000 } else { w }
-    } else {
-        w
+    let short = match source {
+        Source::Mixed => 3,
+        Source::Packed => 1,
+        _ => 0,
+    };
+    if entry < short { w & 0xffff0000 } else { w }
+}
+
+// Words of 32 bits: every upper half over a lower half, every lower half below an upper half, and
+// every upper half over the lower half 0, 65,536 words each.
+fn halves_at(n: u32, low: u32, high: u32) -> u32 {
+    let half = n & 0xffff;
+    match n >> 16 {
+        0 => (half << 16) | low,
+        1 => half | high,
+        _ => half << 16,
     }
 }
 
-// The words that are compared. Of 32 bits: every upper half over the lower halves 0 and 0x8712, and
-// every lower half below the upper half 0x5607, 65,536 words each. Else every word of the width.
+// The words that are compared: of 32 bits those with a half of a long entry, else every word of the
+// width.
 pub fn word_at(source: Source, n: u32) -> u32 {
-    if let Source::Mixed = source {
-        let half = n & 0xffff;
-        match n >> 16 {
-            0 => half << 16,
-            1 => (half << 16) | 0x8712,
-            _ => half | 0x56070000,
-        }
-    } else {
-        n
+    match source {
+        Source::Mixed => halves_at(n, 0x8712, 0x56070000),
+        Source::Packed => halves_at(n, 0x000f, 0xcda90000),
+        _ => n,
     }
 }
 
@@ -292,11 +362,24 @@ fn fields_004(entry: u32, w: u32) -> u32 {
     }
 }
 
+// 002, figure 3: the register and the immediate.
+fn fields_bld(w: u32) -> u32 {
+    joined((w >> 4) & 31, w & 7, 0)
+}
+
+// 002, figure 4: the letters of 000011baaaaabbbb. The operand b is split: its highest bit is one
+// field, and the four others are another.
+fn fields_add(w: u32) -> u32 {
+    joined((w >> 9) & 1, (w >> 4) & 31, w & 15)
+}
+
 // Whether the values of a word's fields are those that the paper names. Papers 000 and 003 name
-// none.
+// none, and 001 none in section IV-A.
 pub fn has_fields(source: Source, entry: u32, w: u32, found: u32) -> bool {
     match source {
         Source::Table1 | Source::Table2 => fields_001(entry, w) == found,
+        Source::Bld => fields_bld(w) == found,
+        Source::AddAfter => fields_add(w) == found,
         Source::Mixed => fields_004(entry, w) == found,
         _ => true,
     }

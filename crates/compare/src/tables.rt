@@ -141,6 +141,21 @@ pub const EXAMPLE_5: [u32; 13] = [
     0x30000201,
 ];
 
+// 000, section 3.1, the first two patterns. Our copy spoils the first: it must be "(0,0), {}, A".
+pub const DEFAULT: [u32; 9] = [
+    0x10020002,
+    // A **
+    0x20410210,
+    0x0,
+    0x0,
+    0x30000002,
+    // B *0
+    0x20420210,
+    0x1,
+    0x0,
+    0x30000101,
+];
+
 // 000, (6) in section 3.1.
 pub const EXAMPLE_6: [u32; 12] = [
     0x10030004,
@@ -282,6 +297,84 @@ pub const TABLE_2: [u32; 52] = [
     0x30000002,
 ];
 
+// 001, section IV-A, where significant bits are explained.
+pub const SIGNIFICANT: [u32; 12] = [
+    0x10030004,
+    // X 0100
+    0x20580400,
+    0xf,
+    0x4,
+    // Y 01-1
+    0x20590410,
+    0xd,
+    0x5,
+    0x30000101,
+    // Z 11-0
+    0x205a0410,
+    0xd,
+    0xc,
+    0x30000101,
+];
+
+// 002, figure 3: BLD reg, imm. The code and the mask are those that the paper's rule makes of the
+// cells: what no register and no immediate changes. Our copy prints the registers' mask as 0xffff8,
+// a digit too long for codes of 16 bits: 0xfff8, as the immediates of 3 bits have it.
+pub const BLD: [u32; 6] = [
+    0x10010010,
+    // 1111 100r rrrr 0iii
+    0x20011020,
+    0xfe08,
+    0xf800,
+    0x30000405,
+    0x30000003,
+];
+
+// 002, figure 4, left: four descriptions of one code, labelled with their lines. A field is one run
+// of bits, so that the operand b is two: bit 9, and bits 3-0.
+pub const ADD_BEFORE: [u32; 25] = [
+    0x10040010,
+    // add reg_1, reg_1: 000011baaaaabbbb
+    0x20011030,
+    0xfc00,
+    0x0c00,
+    0x30000901,
+    0x30000405,
+    0x30000004,
+    // add reg_1, imm: 000011baaaaabbbb
+    0x20041030,
+    0xfc00,
+    0x0c00,
+    0x30000901,
+    0x30000405,
+    0x30000004,
+    // add imm, reg_1: 000011baaaaabbbb
+    0x20071030,
+    0xfc00,
+    0x0c00,
+    0x30000901,
+    0x30000405,
+    0x30000004,
+    // add imm, imm: 000011baaaaabbbb
+    0x200a1030,
+    0xfc00,
+    0x0c00,
+    0x30000901,
+    0x30000405,
+    0x30000004,
+];
+
+// 002, figure 4, right: the one that is left.
+pub const ADD_AFTER: [u32; 7] = [
+    0x10010010,
+    // add reg_1, reg_1: 000011baaaaabbbb
+    0x20011030,
+    0xfc00,
+    0x0c00,
+    0x30000901,
+    0x30000405,
+    0x30000004,
+];
+
 // 003, figure 1 (a). The probabilities, 0.25 each, have no place in document 01.
 pub const DISJOINT: [u32; 17] = [
     0x10040005,
@@ -363,4 +456,18 @@ pub const MIXED: [u32; 22] = [
     0xffffff00,
     0x5607c700,
     0x30000008,
+];
+
+// 004, section 2.2, the instructions of its byte order example. Which of their bits are operands
+// the paper does not say: here none is.
+pub const PACKED: [u32; 7] = [
+    0x10020020,
+    // 9284
+    0x20011000,
+    0xffff0000,
+    0x92840000,
+    // cda9000f
+    0x20022000,
+    0xffffffff,
+    0xcda9000f,
 ];

@@ -1,11 +1,11 @@
--- `compare::fill_many` is safe and ends. Assumes nothing.
+-- `compare::runs::fill_many` is safe and ends. Assumes nothing.
 use Prim.Native.Nat.{_-_, _≤_}
 use mathlib.Core.Path.{_≡_}
 use native.Mathlib.Omega.{arith}
 use lib.ListN.{length, length-set}
 use borrow.Author.Needs.{needs}
-use Rattle.compare.proofs.fill_many.Statement.{statement}
-use Rattle.compare.proofs.fill_many.Tie as tie
+use Rattle.compare.proofs.runs.fill_many.Statement.{statement}
+use Rattle.compare.proofs.runs.fill_many.Tie as tie
 
 abbrev Inv-loop : tie.InvT-loop
 Inv-loop words₀ head at₀ words at = (at ≤ length words₀) × (length words ≡ length words₀)

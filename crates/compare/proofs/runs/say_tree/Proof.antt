@@ -1,8 +1,8 @@
--- `compare::say_tree` is safe and ends. Assumes nothing.
+-- `compare::runs::say_tree` is safe and ends. Assumes nothing.
 use Prim.Native.Nat.{_-_, _≤_}
 use borrow.Author.Needs.{needs}
-use Rattle.compare.proofs.say_tree.Statement.{statement}
-use Rattle.compare.proofs.say_tree.Tie as tie
+use Rattle.compare.proofs.runs.say_tree.Statement.{statement}
+use Rattle.compare.proofs.runs.say_tree.Tie as tie
 
 abbrev Inv-loop : tie.InvT-loop
 Inv-loop tree index₀ space end index = index ≤ 4

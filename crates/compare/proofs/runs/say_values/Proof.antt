@@ -1,14 +1,15 @@
--- `compare::say_values` is safe and ends. Assumes nothing.
+-- `compare::runs::say_values` is safe and ends. Assumes nothing.
 use Prim.Native.Nat.{_-_, _≤_}
+use lib.ListN.{length}
 use borrow.Author.Needs.{needs}
-use Rattle.compare.proofs.say_values.Statement.{statement}
-use Rattle.compare.proofs.say_values.Tie as tie
+use Rattle.compare.proofs.runs.say_values.Statement.{statement}
+use Rattle.compare.proofs.runs.say_values.Tie as tie
 
 abbrev Inv-loop : tie.InvT-loop
-Inv-loop values count k₀ space k = k ≤ 8
+Inv-loop values k₀ t3 k = k ≤ length values
 
 abbrev μ-loop : tie.MeasureT-loop
-μ-loop values count k₀ space k = 8 - k
+μ-loop values k₀ t3 k = length values - k
 
 loop-holds : tie.Need-loop-holds Inv-loop μ-loop
 loop-holds c = search needs
@@ -19,14 +20,11 @@ slice-aggregate-say c = search needs
 say-requires : tie.Need-say-requires Inv-loop μ-loop
 say-requires c κs = search needs
 
-cast-say-number : tie.Need-cast-say-number Inv-loop μ-loop
-cast-say-number c = search needs
-
 mul-say-number : tie.Need-mul-say-number Inv-loop μ-loop
 mul-say-number c = search needs
 
-element-copy-out-say-number : tie.Need-element-copy-out-say-number Inv-loop μ-loop
-element-copy-out-say-number c = search needs
+shared-slice-read-say-number : tie.Need-shared-slice-read-say-number Inv-loop μ-loop
+shared-slice-read-say-number c = search needs
 
 say-number-requires : tie.Need-say-number-requires Inv-loop μ-loop
 say-number-requires c κs = search needs
@@ -52,9 +50,8 @@ say-values-spec =
     loop-holds
     slice-aggregate-say
     say-requires
-    cast-say-number
     mul-say-number
-    element-copy-out-say-number
+    shared-slice-read-say-number
     say-number-requires
     add-k
     loop-less
