@@ -73,10 +73,7 @@ fn steps(tree: &[u32], at: u32) -> bool {
     match image::step(&tables::PACKED, tree, &BYTES, HalfwordAddress(at)) {
         Stepped::Item(word, next) => is_item(at, word, next.0),
         Stepped::End => HALVES <= at,
-        Stepped::BadTable => false,
-        Stepped::BadImage => false,
-        Stepped::BadTree => false,
-        Stepped::Refused(_, _) => false,
+        _ => false,
     }
 }
 
@@ -131,13 +128,10 @@ fn say_steps(tree: &[u32]) {
 // The listing of the bytes by a tree.
 fn say_list(tree: &[u32]) {
     let mut items = [0u32; 4];
-    match image::list(&tables::PACKED, tree, &BYTES, &mut items) {
+    let answer = image::list(&tables::PACKED, tree, &BYTES, &mut items);
+    match answer {
         Listed::Items(count) => say_items(&items, count),
-        Listed::Full(at) => say_refusal(17, at.0, 0),
-        Listed::BadTable => say_refusal(15, 0, 0),
-        Listed::BadImage => say_refusal(16, 0, 0),
-        Listed::BadTree => say_refusal(14, 0, 0),
-        Listed::Refused(number, place) => say_refusal(number, place, 0),
+        _ => say_refusal(answer.cause()),
     }
 }
 

@@ -13,6 +13,7 @@ use tree::Checked;
 use tree::Generated;
 use walker::Walked;
 ghost use Prim.Native.Nat.{_≤_};
+ghost use lib.ListN.{length};
 
 mod images;
 mod others;
@@ -60,8 +61,8 @@ fn words_in(buffer: &[u32], count: u32) -> &[u32] {
 }
 
 // An entry's values, as many as decoding says.
-fn first_values(values: &[u32; 8], count: u32) -> &[u32]
-    requires { ⌜ count ≤ 8 ⌝ }
+fn first_values(values: &[u32], count: u32) -> &[u32]
+    requires { ⌜ count ≤ length (now values) ⌝ }
 {
     &values[..count as usize]
 }

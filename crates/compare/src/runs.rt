@@ -1,10 +1,10 @@
 // The examples that document 01 runs, and what it prints.
+use crate::first_values;
 use crate::says::say;
 use crate::says::say_number;
 use crate::says::say_refusal;
 use crate::says::say_word;
 use crate::tables;
-use crate::first_values;
 use operands::Decoding;
 use operands::Encoding;
 use table::Answer;

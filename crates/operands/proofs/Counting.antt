@@ -8,6 +8,7 @@ use Rattle.words.specs.Words.{word}
 use Rattle.table.specs.Table.{Entry, entryNumber, entryPlace, tableOf, fieldsOf, countOf}
 use Rattle.table.proofs.Laws.{length-entries}
 use Rattle.operands.specs.Answers.{firstWords, Decodes}
+use Rattle.operands.specs.declared.Decoding.{Decoding}
 use Rattle.operands.specs.declared.Decoding.the-variants as decoding
 use Rattle.operands.proofs.Inverse.{decode-reads, decoded, selected-lt, length-values}
 use Rattle.operands.proofs.Answering.{stands, length-fields}
@@ -33,3 +34,7 @@ module _ (ws : List ℕ) (w : ℕ) (before after : List ℕ) (e n : ℕ) (d : De
       let k : n ≡ fieldsOf (word ws (entryPlace ws e))
       = decode-count ∙ ap (λ (z : Entry). length (z .fields)) (s .is) ∙ length-fields ws (fieldsOf (word ws (entryPlace ws e))) _ in
       omega (arith, s .few)
+
+-- the same of an answer that is an entry
+pub answered-few : (ws : List ℕ) (w : ℕ) (before after : List ℕ) (r : Decoding) (e n : ℕ) → r ≡ decoding.Entry e n → Decodes ws w before after r → n ≤ 8
+answered-few ws w before after r e n k d = decode-few ws w before after e n (rw k at d)
