@@ -2,7 +2,7 @@
 no name.
 """
 
-from manuals import part
+from decoders import part
 
 OPERATIONS = ["AND", "EOR", "SUB", "RSB", "ADD", "ADC", "SBC", "RSC", "TST", "TEQ", "CMP", "CMN", "ORR", "MOV", "BIC", "MVN"]
 MULTIPLIES = ["MUL", "MLA", None, None, "UMULL", "UMLAL", "SMULL", "SMLAL"]
