@@ -1,4 +1,4 @@
-"""RV64 by opcode, funct3 and funct7, as the manual's instruction listings have them (hexadecimal opcodes, decimal functs)."""
+"""RV64 by opcode, funct3 and funct7, in the way of the manual's instruction listings (hexadecimal opcodes, decimal functs)."""
 
 from decoders import part
 
