@@ -56,7 +56,8 @@ KNOWN = {
             0xEB000000: "BL", 0xFA000000: "BLX", 0xF57FF05F: "DMB", 0xF57FF04F: "DSB", 0xF57FF06F: "ISB", 0xF57FF01F: "CLREX",
             0xE1200070: "BKPT", 0xE7F000F0: "UDF", 0xE10F0000: "MRS", 0xE129F000: "MSR", 0xE28F0004: "ADR", 0xE16F0F11: "CLZ",
             0xE1D000B0: "LDRH", 0xE1C000B0: "STRH", 0xE1900F9F: "LDREX", 0xE6EF0071: "UXTB", 0xE7E70050: "UBFX",
-            0xEE070F15: "MCR", 0xE2500001: "SUB", 0xF5D0F000: "PLD"},
+            0xEE070F15: "MCR", 0xE2500001: "SUB", 0xF5D0F000: "PLD", 0xE320F0EF: "HINT", 0xE320F0F3: "DBG", 0xF4100000: "MEMORY HINT",
+            0xF6100010: "nothing"},
     "buoy": {0x0F000000: "TRIP", 0x1FF30000: "ADD", 0x1F030000: "TRIP", 0xB1000000: "nothing", 0xB1F00000: "DOZE",
              0xB1FF0000: "SLEEP", 0x9F100000: "LAMP OFF", 0xB0000000: "RETURN", 0xB0010000: "RELEASE", 0xE8000000: "STOP",
              0xEFF00000: "STOP ALL", 0xEFF00001: "nothing", 0xEFF00100: "SAMPLE"},
@@ -286,7 +287,7 @@ def try_added(path, mktree_path, rng):
 # ---------------------------------------------------------------------------- all of it
 
 def least(sets):
-    needed = {"known": 85, "listed": len(AVR_LISTING), "altered": ALTERED * len(sets), "tree lines": 10000}
+    needed = {"known": 90, "listed": len(AVR_LISTING), "altered": ALTERED * len(sets), "tree lines": 10000}
     for one in sets:
         needed |= {one.name: 20000, f"{one.name}, made": 7000, f"{one.name}, neighbours": 7000}
         needed |= {f"{one.name}, entry {NOTHING}": 300}
