@@ -1,5 +1,6 @@
 /*
- * How long a whole listing takes: the loop of document 01 in plain C, and beside it the proved lister.
+ * How long a whole listing takes: the loop of document 01 in plain C, twice, and beside it the proved lister. One loop in C looks at the
+ * tree's header for each item, as a walk of its own does; the other looks once, before the first item.
  *
  * Usage: listing table tree image start. The files hold 32-bit words, low byte first, but the image, which is bytes; `start`
  * holds the items of the image's first bytes, as the second implementation lists them (make_listing.py writes all but the table).
@@ -54,19 +55,27 @@ static int header_good(const uint32_t *tree, size_t words) {
     return width >= 1 && width <= 32 && nodes >= 1 && nodes <= words - 1;
 }
 
-/* The entry, NOTHING or, for 8, 7 and 9, WRONG_WALK. The header is looked at in each walk, as "Walking: 8, 7, 9" has it.
+struct header {
+    uint32_t width, nodes;
+};
+
+static struct header header_of(const uint32_t *tree) {
+    struct header header = {tree[0] >> 16 & 63, tree[0] & 0xffff};
+    return header;
+}
+
+/* The entry, NOTHING or, for 7 and 9, WRONG_WALK; the header is good.
  * "A path node is damaged if its kind is not 8-10, a spare bit is set, the tested bit is at or above the width, or the one
  * side's index is below its own + 2 or above the number of nodes." */
-static uint32_t walk(const uint32_t *restrict tree, size_t words, uint32_t word) {
-    if (!header_good(tree, words)) return WRONG_WALK;
-    uint32_t width = tree[0] >> 16 & 63, nodes = tree[0] & 0xffff, index = 1;
-    if (width < 32 && word >> width != 0) return WRONG_WALK;
+static inline uint32_t walk_from(const uint32_t *restrict tree, struct header header, uint32_t word) {
+    uint32_t index = 1;
+    if (header.width < 32 && word >> header.width != 0) return WRONG_WALK;
     for (;;) {
         uint32_t node = tree[index];
         switch (node >> 28) {
         case 8: {
             uint32_t bit = node >> 23 & 31, one_side = node & 0xffff;
-            if ((node >> 16 & 0x7f) != 0 || bit >= width || one_side < index + 2 || one_side > nodes) return WRONG_WALK;
+            if ((node >> 16 & 0x7f) != 0 || bit >= header.width || one_side < index + 2 || one_side > header.nodes) return WRONG_WALK;
             index = (word >> bit & 1) == 0 ? index + 1 : one_side;
             break;
         }
@@ -80,6 +89,11 @@ static uint32_t walk(const uint32_t *restrict tree, size_t words, uint32_t word)
     }
 }
 
+/* The header is looked at in each walk, as "Walking: 8, 7, 9" has it. */
+static uint32_t walk(const uint32_t *restrict tree, size_t words, uint32_t word) {
+    return header_good(tree, words) ? walk_from(tree, header_of(tree), word) : WRONG_WALK;
+}
+
 /* ------------------------------------------------------------------------- the listing of document 01 */
 
 #define REFUSED SIZE_MAX
@@ -89,27 +103,51 @@ static uint32_t halfword(const uint8_t *image, size_t address) {
     return (uint32_t)image[2 * address] | (uint32_t)image[2 * address + 1] << 8;
 }
 
-/* The number of items, or REFUSED where the tree is no good or the buffer too short. */
+struct listing {
+    const uint8_t *lengths;
+    size_t halves, address, items, room;
+};
+
+/* "a missing lower half reads as zero" */
+static inline uint32_t word_at(const uint8_t *restrict image, size_t address, size_t halves) {
+    return halfword(image, address) << 16 | (address + 1 < halves ? halfword(image, address + 1) : 0);
+}
+
+/* One item; 0 where the walk was refused or the buffer is full. */
+static inline int put_item(struct listing *listing, uint32_t named, uint32_t *restrict buffer) {
+    size_t address = listing->address, halves = listing->halves;
+    if (named == WRONG_WALK || listing->items == listing->room) return 0;
+    if (named == NOTHING) {
+        buffer[listing->items++] = 13u << 28 | (uint32_t)address;
+        listing->address = address + 1;
+    } else if (address + listing->lengths[named] / 16 > halves) {
+        buffer[listing->items++] = 14u << 28 | (uint32_t)address;
+        listing->address = halves;
+    } else {
+        buffer[listing->items++] = 12u << 28 | named << 20 | (uint32_t)address;
+        listing->address = address + listing->lengths[named] / 16;
+    }
+    return 1;
+}
+
+/* The number of items, or REFUSED where the tree is no good or the buffer too short. The header is looked at for each item. */
 static size_t list_in_c(const uint32_t *restrict tree, size_t tree_words, const uint8_t *restrict lengths,
                         const uint8_t *restrict image, size_t image_bytes, uint32_t *restrict buffer, size_t room) {
-    size_t halves = image_bytes / 2, address = 0, items = 0;
-    while (address < halves) {
-        /* "a missing lower half reads as zero" */
-        uint32_t lower = address + 1 < halves ? halfword(image, address + 1) : 0;
-        uint32_t named = walk(tree, tree_words, halfword(image, address) << 16 | lower);
-        if (named == WRONG_WALK || items == room) return REFUSED;
-        if (named == NOTHING) {
-            buffer[items++] = 13u << 28 | (uint32_t)address;
-            address += 1;
-        } else if (address + lengths[named] / 16 > halves) {
-            buffer[items++] = 14u << 28 | (uint32_t)address;
-            address = halves;
-        } else {
-            buffer[items++] = 12u << 28 | named << 20 | (uint32_t)address;
-            address += lengths[named] / 16;
-        }
-    }
-    return items;
+    struct listing listing = {lengths, image_bytes / 2, 0, 0, room};
+    while (listing.address < listing.halves)
+        if (!put_item(&listing, walk(tree, tree_words, word_at(image, listing.address, listing.halves)), buffer)) return REFUSED;
+    return listing.items;
+}
+
+/* The same with one look at the header, before the first item. */
+static size_t list_looking_once(const uint32_t *restrict tree, size_t tree_words, const uint8_t *restrict lengths,
+                                const uint8_t *restrict image, size_t image_bytes, uint32_t *restrict buffer, size_t room) {
+    struct listing listing = {lengths, image_bytes / 2, 0, 0, room};
+    if (!header_good(tree, tree_words)) return REFUSED;
+    struct header header = header_of(tree);
+    while (listing.address < listing.halves)
+        if (!put_item(&listing, walk_from(tree, header, word_at(image, listing.address, listing.halves)), buffer)) return REFUSED;
+    return listing.items;
 }
 
 /* ------------------------------------------------------------------------- the proved side */
@@ -167,7 +205,7 @@ static void read_lengths(struct words table, uint8_t lengths[256]) {
 /* ------------------------------------------------------------------------- timing */
 
 static void print_times(const char *what, struct times times, size_t items) {
-    printf("%-18s best %8.3f ms, median %8.3f ms, worst %8.3f ms; %6.2f ns an item\n", what, 1e3 * times.best,
+    printf("%-20s best %8.3f ms, median %8.3f ms, worst %8.3f ms; %6.2f ns an item\n", what, 1e3 * times.best,
            1e3 * times.median, 1e3 * times.worst, 1e9 * times.best / (double)items);
 }
 
@@ -181,9 +219,14 @@ static void fill(uint32_t *buffer, size_t count) {
 static void check_start(struct words tree, const uint8_t lengths[256], struct bytes image, struct words start,
                         uint32_t *buffer, size_t room) {
     size_t bytes = start.at[0];
+    if (bytes > image.count) stop("the start is longer than the image");
     size_t items = list_in_c(tree.at, tree.count, lengths, image.at, bytes, buffer, room);
-    if (bytes > image.count || items != start.count - 1 || memcmp(buffer, start.at + 1, 4 * items) != 0)
+    if (items != start.count - 1 || memcmp(buffer, start.at + 1, 4 * items) != 0)
         stop("the C side differs from the second implementation");
+    fill(buffer, room);
+    if (list_looking_once(tree.at, tree.count, lengths, image.at, bytes, buffer, room) != items
+        || memcmp(buffer, start.at + 1, 4 * items) != 0)
+        stop("the C side that looks once differs from the second implementation");
     printf("start good: %zu items of the first %zu bytes\n", items, bytes);
 }
 
@@ -268,9 +311,10 @@ int main(int arguments, char **argument) {
     if (image.count != MOST_BYTES) stop("the image is not of 2,097,152 bytes");
     image.at = realloc(image.at, image.count + 4); /* the limits are tried with a few bytes more */
     size_t room = image.count / 2 + 16;
-    uint32_t *in_c = malloc(4 * room), *proved = malloc(4 * room);
-    if (image.at == NULL || in_c == NULL || proved == NULL) stop("no memory");
+    uint32_t *in_c = malloc(4 * room), *once = malloc(4 * room), *proved = malloc(4 * room);
+    if (image.at == NULL || in_c == NULL || once == NULL || proved == NULL) stop("no memory");
     fill(in_c, room);
+    fill(once, room);
     fill(proved, room);
 
     check_start(tree, lengths, image, start, in_c, room);
@@ -282,12 +326,16 @@ int main(int arguments, char **argument) {
 #endif
 
     /* The sides take turns, so that what else the machine does meets both. */
-    double c_taken[REPEATS], proved_taken[REPEATS], setup_taken[REPEATS];
+    double c_taken[REPEATS], once_taken[REPEATS], proved_taken[REPEATS], setup_taken[REPEATS];
     for (int turn = 0; turn < REPEATS; turn++) {
         double before = seconds();
         size_t again = list_in_c(tree.at, tree.count, lengths, image.at, image.count, in_c, room);
         c_taken[turn] = seconds() - before;
         if (again != items) stop("the C side changed its mind");
+        before = seconds();
+        again = list_looking_once(tree.at, tree.count, lengths, image.at, image.count, once, room);
+        once_taken[turn] = seconds() - before;
+        if (again != items || memcmp(in_c, once, 4 * items) != 0) stop("the C sides differ");
 #ifdef KILNUMBER_LIST
         before = seconds();
         struct listed listed = proved_list(table, tree, image.at, image.count, proved, room);
@@ -300,14 +348,16 @@ int main(int arguments, char **argument) {
         setup_taken[turn] = seconds() - before;
 #endif
     }
-    struct times c_times = times_of(c_taken);
-    print_times("C", c_times, items);
+    struct times c_times = times_of(c_taken), once_times = times_of(once_taken);
+    print_times("C, header each time", c_times, items);
+    print_times("C, header once", once_times, items);
 #ifdef KILNUMBER_LIST
     struct times proved_times = times_of(proved_taken), setup_times = times_of(setup_taken);
     print_times("proved", proved_times, items);
     print_times("proved, no image", setup_times, items);
-    printf("ratio proved to C, best: %.2f, median: %.2f\n", proved_times.best / c_times.best,
-           proved_times.median / c_times.median);
+    printf("ratio proved to C that looks at the header each time, best: %.2f, median: %.2f; once, best: %.2f, median: %.2f\n",
+           proved_times.best / c_times.best, proved_times.median / c_times.median, proved_times.best / once_times.best,
+           proved_times.median / once_times.median);
 #else
     (void)proved_taken;
     (void)setup_taken;

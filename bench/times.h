@@ -7,7 +7,9 @@
 #include <stdlib.h>
 #include <time.h>
 
+#ifndef REPEATS
 #define REPEATS 15
+#endif
 
 struct times {
     double best, median, worst;

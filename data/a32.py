@@ -1,7 +1,7 @@
 """A32, the 32-bit ARM instructions of ARMv7-A without Advanced SIMD, VFP and the second coprocessor
 instructions (CDP2 to STC2).
 
-Facts: ARM Architecture Reference Manual, ARMv7-A and ARMv7-R edition (ARM DDI 0406C), chapter A5 "ARM Instruction Set
+Facts (from knowledge of it: README.md): ARM Architecture Reference Manual, ARMv7-A and ARMv7-R edition (ARM DDI 0406C), chapter A5 "ARM Instruction Set
 Encoding" (its tables) and the encodings A1 in chapters A8 and B9. Data processing is laid out as in the earlier manual (ARM
 DDI 0100I, A3.4 and A5.1): one pattern for an operation, with bit 25 (I) and the shifter operand as fields.
 
@@ -9,7 +9,8 @@ What the manual says by exclusion is an exclusion condition here: cond = 1111 is
 I = 0 and bits 7 and 4 set is multiplies and extra loads and stores (EXTRA); loads and stores with bits 25 and 4 set are
 media instructions (MEDIA_SPACE); coprocessors 10 and 11 are VFP and Advanced SIMD (VECTOR); and a few more below. What it says by
 "SEE" is left to the most-specific rule: ADR in ADD and SUB, LDRT .. in LDR .., LDRHT .. in LDRH .., POP in LDM, PUSH in
-STMDB, SXTB .. in SXTAB .., BFC in BFI, USAD8 in USADA8, SMUAD in SMLAD, SMUSD in SMLSD, SMMUL in SMMLA.
+STMDB, SXTB .. in SXTAB .., BFC in BFI, USAD8 in USADA8, SMUAD in SMLAD, SMUSD in SMLSD, SMMUL in SMMLA; and NOP .. in HINT. HINT and
+MEMORY HINT are the hints that the manual leaves unallocated: they do nothing there, and are not UNDEFINED.
 
 A bit in brackets in the manual ("should be") is an opcode bit: other words are UNPREDICTABLE there and select nothing here.
 What depends on a register's number only (odd Rt of LDRD, Rd = 15 with S: SUBS PC, LR) is left to the fields. Aliases are
@@ -255,6 +256,12 @@ WRITE_PRELOAD = listed("PLDW        1111 0101 U001 nnnn 1111 iiii iiii iiii", LI
     + listed("PLDW        1111 0111 U001 nnnn 1111 iiii itt0 mmmm")
 
 
+HINTS = listed("HINT        cccc 0011 0010 0000 1111 0000 hhhh hhhh", NEVER) + listed("""
+    MEMORY HINT  1111 0100 U001 hhhh hhhh hhhh hhhh hhhh
+    MEMORY HINT  1111 0110 U001 hhhh hhhh hhhh hhh0 hhhh
+""")
+
+
 def parallel():
     """SADD16 to UHSUB8."""
     lines = [f"{kind}{operation}  cccc 0110 0{first} nnnn dddd 1111 {second}1 mmmm"
@@ -265,4 +272,4 @@ def parallel():
 SET = InstructionSet("a32", 32, tuple(
     DATA_PROCESSING + IMMEDIATE + STATUS + MISCELLANEOUS + ALWAYS + MULTIPLY + SYNCHRONIZATION
     + EXTRA_LOADS_AND_STORES + DOUBLE + LOADS_AND_STORES + parallel() + MEDIA + BLOCK_AND_BRANCH
-    + COPROCESSOR_MEMORY + COPROCESSOR + UNCONDITIONAL + WRITE_PRELOAD))
+    + COPROCESSOR_MEMORY + COPROCESSOR + UNCONDITIONAL + WRITE_PRELOAD + HINTS))

@@ -1,6 +1,6 @@
 """AVR, the 8-bit core with all its optional instructions: 16-bit instructions, and LDS, STS, JMP, CALL of 32 bits.
 
-Facts: AVR Instruction Set Manual (Microchip DS40002198, formerly Atmel 0856), the "16-bit Opcode" or "32-bit Opcode" box in
+Facts (from knowledge of it: README.md): AVR Instruction Set Manual (Microchip DS40002198, formerly Atmel 0856), the "16-bit Opcode" or "32-bit Opcode" box in
 the description of each instruction. The set is that of AVRe+ and AVRxm together; the 16-bit LDS and STS of AVRrc lie on the
 patterns of LDD and STD and are left out. Width 32: the first halfword of an instruction is the word's upper half, as the
 lister has it.

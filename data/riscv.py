@@ -1,7 +1,7 @@
 """RISC-V RV64: I, M, A, F, D, Zicsr, Zifencei, Zfh, Zba, Zbb, Zbc, Zbs, Zbkb, Zbkx, Zicond, Zicbom, Zicbop, Zicboz, and four
 privileged instructions. All are 32 bits wide; the C extension is left out.
 
-Facts: The RISC-V Instruction Set Manual, Volume I (unprivileged): the chapter "RV32/64G Instruction Set Listings", and for
+Facts (from knowledge of it: README.md): The RISC-V Instruction Set Manual, Volume I (unprivileged): the chapter "RV32/64G Instruction Set Listings", and for
 the later extensions the encodings in their own chapters (Zfh; "B" with Zba, Zbb, Zbc, Zbs; scalar cryptography with Zbkb,
 Zbkx; Zicond; CMO with Zicbom, Zicbop, Zicboz). SRET, MRET, WFI and SFENCE.VMA are from Volume II (privileged), the listing
 of its instructions.

@@ -1,70 +1,58 @@
 /*
  * A simulator's account of a firmware image: which instruction each word is, and what current it draws.
  *
- *   target/bin/mktree < examples/worked.table | python3 examples/tree_file.py > worked.tree
+ *   target/bin/mktree < examples/worked.table | python3 examples/tree_file.py target/worked.tree
  *   rt staticlib kilnumber
- *   gcc -std=c11 -O2 -Iinclude examples/simulator.c target/staticlib/libkilnumber.a -o simulator
- *   ./simulator worked.tree examples/worked.currents examples/worked.image
+ *   gcc -std=c11 -O2 -Iinclude examples/simulator.c target/staticlib/libkilnumber.a -o target/account
+ *   target/account examples/worked.table target/worked.tree examples/worked.currents examples/worked.image
  *
- * The tree file holds the tree's words, low byte first. The file of currents has a line for each entry: its number, and the
+ * Table and tree are files of words, low byte first. The file of currents has a line for each entry: its number, and the
  * microamperes that it draws for its one cycle (those of the example are made up). The image holds one word after another, low
  * byte first, each of as many bytes as the tree's width needs: 1, 2 or 4.
  *
- * It exits with 0 after a whole account, with 1 if the walk refused something and with 2 if a file is no good.
+ * It exits with 0 after a whole account, with 1 if something was refused and with 2 if a file is no good. (examples/lister.c has
+ * the other way: instructions of 16 and 32 bits, listed at once.)
  */
 
 #include <stdio.h>
 #include <stdlib.h>
 
+#include "files.h"
 #include "kilnumber.h"
 
 #define ENTRIES 256 /* an entry's number has eight bits */
-
-enum { HIGH_WORD = 7, DAMAGED_NODE = 9 }; /* the third, 8, is about the tree's header */
-
-struct bytes {
-    uint8_t *at;
-    size_t count;
-};
 
 struct account {
     unsigned long long current[ENTRIES], count[ENTRIES], unknown, refused;
     int has_current[ENTRIES];
 };
 
-static void stop(const char *name, const char *why) {
-    fprintf(stderr, "simulator: %s: %s\n", name, why);
-    exit(2);
-}
-
-static struct bytes read_file(const char *name) {
-    FILE *file = fopen(name, "rb");
-    if (file == NULL || fseek(file, 0, SEEK_END) != 0) stop(name, "can't be opened");
-    struct bytes bytes = {NULL, (size_t)ftell(file)};
-    rewind(file);
-    bytes.at = malloc(bytes.count + 1); /* never null, also without a byte: the walk wants a pointer */
-    if (bytes.at == NULL || fread(bytes.at, 1, bytes.count, file) != bytes.count) stop(name, "can't be read");
-    fclose(file);
-    return bytes;
-}
-
 static void read_currents(const char *name, struct account *account) {
     FILE *file = fopen(name, "r");
     if (file == NULL) stop(name, "can't be opened");
     unsigned entry, microamperes;
     int read;
-    while ((read = fscanf(file, "%u %u", &entry, &microamperes)) == 2) {
+    while ((read = fscanf(file, "%3u %9u", &entry, &microamperes)) == 2) {
         if (entry >= ENTRIES || account->has_current[entry]) stop(name, "an entry twice, or over 255");
         account->current[entry] = microamperes;
         account->has_current[entry] = 1;
     }
-    if (read != EOF) stop(name, "not a line of two numbers");
+    if (read != EOF || ferror(file)) stop(name, "not a line of two numbers");
     fclose(file);
 }
 
-/* The width is in bits 21-16 of the tree's first word. Only the walk says whether that word is good. */
-static size_t bytes_a_word(struct bytes tree) {
-    unsigned width = tree.count < 4 ? 0 : tree.at[2] & 63;
+/* Once, before the first walk: with another table's tree, walks would go through and name wrong entries. */
+static int wrong_tree(struct words table, struct words tree) {
+    uint64_t result = kilnumber_check(table.at, table.count, tree.at, tree.count);
+    uint32_t number = kilnumber_number(result);
+    if (number == KILNUMBER_WRONG_TREE) printf("refused %u: the tree is not right for the table\n", (unsigned)number);
+    else if (number != 0) printf("refused %u: word %u of the table is at fault\n", (unsigned)number, (unsigned)kilnumber_list_place(result));
+    return number != 0;
+}
+
+/* The width is in bits 21-16 of a good tree's first word. */
+static size_t bytes_a_word(struct words tree) {
+    unsigned width = tree.at[0] >> 16 & 63;
     return width <= 8 ? 1 : width <= 16 ? 2 : 4;
 }
 
@@ -74,26 +62,15 @@ static uint32_t word_at(const uint8_t *at, size_t size) {
     return word;
 }
 
-/* A word that is no word of the width is one fault of the image, and the account goes on; a bad tree is the end of it. */
-static int refused(struct account *account, uint64_t result, size_t offset, uint32_t word) {
-    switch (kilnumber_number(result)) {
-    case HIGH_WORD:
+/* Charges one instruction; 1 if the account can't go on. The tree was checked, so a walk can only refuse the word: that is one fault of
+ * the image, and the account goes on. */
+static int charge(struct account *account, struct words tree, uint32_t word, size_t offset) {
+    uint64_t result = kilnumber_walk_words(tree.at, tree.count, word);
+    if (kilnumber_number(result) == KILNUMBER_HIGH_WORD) {
         printf("refused 7: byte %zu: the word %08x has a bit at or above the tree's width\n", offset, (unsigned)word);
         account->refused++;
         return 0;
-    case DAMAGED_NODE:
-        printf("refused 9: byte %zu: node %u of the tree is damaged\n", offset, (unsigned)kilnumber_place(result));
-        return 1;
-    default:
-        printf("refused %u: the tree's header is wrong\n", (unsigned)kilnumber_number(result));
-        return 1;
     }
-}
-
-/* Charges one instruction; 1 if the account can't go on. */
-static int charge(struct account *account, struct bytes tree, uint32_t word, size_t offset) {
-    uint64_t result = kilnumber_walk(tree.at, tree.count, word);
-    if (kilnumber_number(result) != 0) return refused(account, result, offset, word);
     if (kilnumber_is_nothing(result)) {
         account->unknown++;
         return 0;
@@ -122,16 +99,18 @@ static void print_account(const struct account *account) {
 }
 
 int main(int arguments, char **argument) {
-    if (arguments != 4) stop("usage", "simulator tree currents image");
+    if (arguments != 5) stop("usage", "simulator table tree currents image");
     static struct account account;
-    struct bytes tree = read_file(argument[1]), image = read_file(argument[3]);
-    read_currents(argument[2], &account);
-    size_t size = bytes_a_word(tree);
-    if (image.count % size != 0) stop(argument[3], "the last word is not whole");
-    int ended = 0;
+    struct words table = read_words(argument[1]), tree = read_words(argument[2]);
+    struct bytes image = read_file(argument[4]);
+    read_currents(argument[3], &account);
+    int ended = wrong_tree(table, tree);
+    size_t size = ended ? 1 : bytes_a_word(tree);
+    if (image.count % size != 0) stop(argument[4], "the last word is not whole");
     for (size_t offset = 0; offset < image.count && !ended; offset += size)
         ended = charge(&account, tree, word_at(image.at + offset, size), offset);
     if (!ended) print_account(&account);
+    free(table.at);
     free(tree.at);
     free(image.at);
     return ended || account.refused != 0;

@@ -1,4 +1,17 @@
-/* The walk of a decode tree, and the listing of an image, for programs in C. */
+/*
+ * Kilnumber for programs in C and C++: the walk of a decode tree, the check of a tree against its table, the listing of an image.
+ *
+ * docs/FORMAT.md has all that is written in bits: tables, trees, items and results, with every refusal's number and its place, and
+ * the orders in which refusals are looked for. This file gives them names.
+ *
+ * - No pointer may be null, also with length 0. Lengths are in words for words and in bytes for bytes.
+ * - Any bytes and words may be lent: what is wrong with them is answered, never a fault. Nothing lent is written but `items`, and
+ *   nothing is read past the lengths.
+ * - Threads: no call keeps, allocates or locks anything. Calls may run at the same time on the same tree, table and image, as long
+ *   as nobody writes to these meanwhile; each listing needs `items` of its own.
+ * - One tree for all calls: kilnumber_walk takes a tree as it stands in a file, as bytes; kilnumber_check and kilnumber_list take
+ *   words. Hold it as words (kilnumber_words makes them of a file's bytes) and walk it with kilnumber_walk_words.
+ */
 
 #ifndef KILNUMBER_H
 #define KILNUMBER_H
@@ -10,74 +23,82 @@
 extern "C" {
 #endif
 
-/*
- * Walks a tree with a word.
- *
- * `tree` points to `tree_bytes` bytes: the tree's 32-bit words, each low byte first. It needs no alignment and must not be
- * null. Bytes after the tree are ignored if the whole length is a multiple of four.
- *
- * The result's bits:
- *
- *    7-0   the entry that is named
- *      8   1 if nothing is named
- *  15-9   zero
- *  31-16   how many test nodes the walk passed
- *  39-32   the number of the refusal, 0 if there is none:
- *            8  the tree's header is wrong, or the length isn't a multiple of four
- *            7  the word has a bit at or above the tree's width
- *            9  a node on the path is damaged
- *          (looked for in this order)
- *  47-40   zero
- *  63-48   after number 9 the index of the damaged node, else zero
- *
- * After a refusal bits 31-0 are zero.
- */
-uint64_t kilnumber_walk(const uint8_t *tree, size_t tree_bytes, uint32_t word);
+/* What kilnumber_number gives; the numbers are those of the causes in docs/FORMAT.md. */
+enum kilnumber_refusal {
+    KILNUMBER_NO_REFUSAL = 0,
+    KILNUMBER_TABLE_START = 1,     /* the table is empty, too long, or its first word is wrong */
+    KILNUMBER_TABLE_WORD = 2,      /* a head word of the table is wrong, or the table ends early or late */
+    KILNUMBER_TABLE_PATTERN = 3,   /* a mask or a value is wrong */
+    KILNUMBER_TABLE_FIELD = 4,     /* a field is wrong, or an entry's bits are not covered */
+    KILNUMBER_HIGH_WORD = 7,       /* the word has a bit at or above the tree's width */
+    KILNUMBER_TREE_HEADER = 8,     /* the tree's header or its length is wrong */
+    KILNUMBER_DAMAGED_NODE = 9,    /* a node on the path is damaged */
+    KILNUMBER_WRONG_TREE = 14,     /* the tree is not right for the table */
+    KILNUMBER_NO_IMAGE_TABLE = 15, /* the table's width is not 32, or a length is not 16 or 32 */
+    KILNUMBER_BAD_IMAGE = 16,      /* the image has an odd number of bytes, or too many */
+    KILNUMBER_NO_ROOM = 17         /* more items than `items` has room for; it holds the earlier ones */
+};
 
-/* The number of the refusal, 0 if there is none; only after a 0 do the next three say something. */
+/* The number of the refusal in any call's result, 0 if there is none. The other accessors say something only where they say so. */
 static inline uint32_t kilnumber_number(uint64_t result) { return (uint32_t)(result >> 32 & 0xff); }
 
-/* Whether nothing is named. */
+/* ------------------------------------------------------------------------------------------------------------- the walk */
+
+/* Walks a tree with a word. The tree's bytes need no alignment. Refusals: 8, 7, 9. */
+uint64_t kilnumber_walk(const uint8_t *tree, size_t tree_bytes, uint32_t word);
+
+/* Without a refusal: whether nothing is named; else the entry that is; and how many test nodes the walk passed. */
 static inline int kilnumber_is_nothing(uint64_t result) { return (int)(result >> 8 & 1); }
-
-/* The entry that is named, if something is. */
 static inline uint32_t kilnumber_entry(uint64_t result) { return (uint32_t)(result & 0xff); }
-
-/* How many test nodes the walk passed. */
 static inline uint32_t kilnumber_tests(uint64_t result) { return (uint32_t)(result >> 16 & 0xffff); }
 
-/* After number 9 the index of the damaged node. */
+/* After KILNUMBER_DAMAGED_NODE of a walk: the index of that node. */
 static inline uint32_t kilnumber_place(uint64_t result) { return (uint32_t)(result >> 48); }
 
-/*
- * Lists a whole image by a pattern table and a tree of it.
- *
- * `table` and `tree` point to 32-bit words in the machine's own order, `image` to bytes, each halfword low byte first. No
- * pointer may be null, also with length 0, and `items` may not overlap what the others point to. The tree is checked against
- * the table once, before the first item; with a tree that mktree or generating wrote for this table the check says yes.
- *
- * Each item is a word of `items`: kind 12 in bits 31-28 with the entry in 27-20, kind 13 for nothing, kind 14 for a 32-bit
- * entry that lacks its second half; the halfword address in bits 19-0.
- *
- * The result's bits:
- *
- *  31-0    the number of items; after number 17 the halfword address of the first item left out; after 1 to 4 the place
- *  39-32   the number of the refusal, 0 if there is none:
- *            1 to 4  the table is at fault
- *            15      the table's width is not 32, or a length not 16 or 32
- *            16      the image has an odd number of bytes, or over 2,097,152
- *            14      the tree is not right for the table
- *            17      more items than `room`; `items` holds the earlier ones
- *          (looked for in this order)
- *  63-40   zero
- *
- * After 0 and 17 only the words of the items written are changed, else none.
- */
+/* ------------------------------------------------------------------------------------------------------------- the check */
+
+/* Checks a tree against its table: 0 if every word of the width walks to what the table selects. Call it once for a tree that comes
+ * from a file: a walk of an unfit tree that is well formed names wrong entries, and only the check tells. Refusals: 1 to 4, 14. */
+uint64_t kilnumber_check(const uint32_t *table, size_t table_words, const uint32_t *tree, size_t tree_words);
+
+/* ------------------------------------------------------------------------------------------------------------- the listing */
+
+/* Lists a whole image by a table and its tree, which is checked first. `items` may not overlap what the others point to. After 0 and
+ * KILNUMBER_NO_ROOM only the words of the items written are changed, else none. Refusals: 1 to 4, 15, 16, 14, 17. */
 uint64_t kilnumber_list(const uint32_t *table, size_t table_words, const uint32_t *tree, size_t tree_words,
                         const uint8_t *image, size_t image_bytes, uint32_t *items, size_t room);
 
-/* The number of items, or the place that goes with the refusal. kilnumber_number gives the number here too. */
+/* Without a refusal: the number of items of a listing. */
 static inline uint32_t kilnumber_items(uint64_t result) { return (uint32_t)(result & 0xffffffff); }
+
+/* The place in the result of a listing or a check: after 1 to 4 the index of the table's word at fault, after KILNUMBER_NO_ROOM the
+ * halfword address of the first item left out. (A walk's is kilnumber_place.) */
+static inline uint32_t kilnumber_list_place(uint64_t result) { return (uint32_t)(result & 0xffffffff); }
+
+/* An item: its kind, the entry where it is an instruction, and its halfword address; twice that is its offset in bytes. */
+enum kilnumber_item_kinds {
+    KILNUMBER_INSTRUCTION = 12,
+    KILNUMBER_UNKNOWN = 13, /* the halfword selects nothing */
+    KILNUMBER_CUT_OFF = 14  /* an instruction of 32 bits that lacks its second half at the image's end */
+};
+static inline uint32_t kilnumber_item_kind(uint32_t item) { return item >> 28; }
+static inline uint32_t kilnumber_item_entry(uint32_t item) { return item >> 20 & 0xff; }
+static inline uint32_t kilnumber_item_address(uint32_t item) { return item & 0xfffff; }
+
+/* ------------------------------------------------------------------------------------------------------------- bytes and words */
+
+/* The words of a file of tables or trees: `words` words from 4 * `words` bytes, each low byte first. */
+static inline void kilnumber_words(const uint8_t *bytes, size_t words, uint32_t *out) {
+    for (size_t at = 0; at < words; at++, bytes += 4)
+        out[at] = (uint32_t)bytes[0] | (uint32_t)bytes[1] << 8 | (uint32_t)bytes[2] << 16 | (uint32_t)bytes[3] << 24;
+}
+
+/* kilnumber_walk for a tree that is held as words, where the machine's own order is low byte first. */
+#if !defined(__BYTE_ORDER__) || __BYTE_ORDER__ == __ORDER_LITTLE_ENDIAN__
+static inline uint64_t kilnumber_walk_words(const uint32_t *tree, size_t tree_words, uint32_t word) {
+    return kilnumber_walk((const uint8_t *)tree, 4 * tree_words, word);
+}
+#endif
 
 #ifdef __cplusplus
 }

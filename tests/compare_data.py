@@ -1,11 +1,14 @@
-"""Checks the real instruction sets in data/: each table is what its list makes, its tree is the second implementation's, and what
-probe selects is what the second implementation selects and what a decoder written from the manual (manuals/) names.
+"""Checks the instruction sets in data/: each table is what its list makes, its tree is the second implementation's, and what
+probe selects is what the second implementation selects and what a decoder in decoders/ names. A table that somebody adds to data/, with
+a list or without, has no such decoder, and is compared with the second implementation alone.
 
 Usage: compare_data.py [path of probe [path of mktree]]. Exits with status 1 at the first difference.
 """
 
 import random
+import struct
 import sys
+import tempfile
 from collections import Counter
 from dataclasses import dataclass, replace
 from pathlib import Path
@@ -16,24 +19,26 @@ import probe
 DATA = Path(__file__).resolve().parent.parent / "data"
 sys.path.insert(1, str(DATA))
 
+import decoders.a32
+import decoders.avr
+import decoders.buoy
+import decoders.riscv
 import make
-import manuals.a32
-import manuals.avr
-import manuals.buoy
-import manuals.riscv
 from patterns import fields_of, mask_and_value, table_bytes, table_words
-from second.lines import mktree_text, read_line
+from second import examples
+from second.lines import line_of, mktree_text, read_line
 from second.reader import Refusal, read
 from second.selection import AMBIGUOUS, NOTHING, select
 from second.tree import nodes_once
 
 SEED = 9
-MANUALS = {"avr": manuals.avr, "riscv": manuals.riscv, "a32": manuals.a32, "buoy": manuals.buoy}
+DECODERS = {"avr": decoders.avr, "riscv": decoders.riscv, "a32": decoders.a32, "buoy": decoders.buoy}
 RANDOM_WORDS = 5400
 WORDS_AT_LEAST_EACH = 30        # words made of each entry, and as many neighbours
 MADE_WORDS = 7500
-ALTERED = 15                    # altered sets of each, which the manual's decoder must tell from the real one
+ALTERED = 15                    # altered sets of each, which the decoder must tell from the real one
 WORDS_FOR_ALTERED = 40
+ADDED_WORDS = 200               # looked up in a table that somebody added
 
 # Words as assemblers print them, known without any table of ours.
 KNOWN = {
@@ -51,7 +56,8 @@ KNOWN = {
             0xEB000000: "BL", 0xFA000000: "BLX", 0xF57FF05F: "DMB", 0xF57FF04F: "DSB", 0xF57FF06F: "ISB", 0xF57FF01F: "CLREX",
             0xE1200070: "BKPT", 0xE7F000F0: "UDF", 0xE10F0000: "MRS", 0xE129F000: "MSR", 0xE28F0004: "ADR", 0xE16F0F11: "CLZ",
             0xE1D000B0: "LDRH", 0xE1C000B0: "STRH", 0xE1900F9F: "LDREX", 0xE6EF0071: "UXTB", 0xE7E70050: "UBFX",
-            0xEE070F15: "MCR", 0xE2500001: "SUB", 0xF5D0F000: "PLD"},
+            0xEE070F15: "MCR", 0xE2500001: "SUB", 0xF5D0F000: "PLD", 0xE320F0EF: "HINT", 0xE320F0F3: "DBG", 0xF4100000: "MEMORY HINT",
+            0xF6100010: "nothing"},
     "buoy": {0x0F000000: "TRIP", 0x1FF30000: "ADD", 0x1F030000: "TRIP", 0xB1000000: "nothing", 0xB1F00000: "DOZE",
              0xB1FF0000: "SLEEP", 0x9F100000: "LAMP OFF", 0xB0000000: "RETURN", 0xB0010000: "RELEASE", 0xE8000000: "STOP",
              0xEFF00000: "STOP ALL", 0xEFF00001: "nothing", 0xEFF00100: "SAMPLE"},
@@ -163,8 +169,8 @@ def lookups(path, words, asked):
     return lines
 
 
-def manual_name(name, word):
-    return MANUALS[name].name_of(word) or NOTHING
+def decoded_name(name, word):
+    return DECODERS[name].name_of(word) or NOTHING
 
 
 def compare_words(path, rng, one, tally):
@@ -172,8 +178,8 @@ def compare_words(path, rng, one, tally):
     for word, line in zip(asked, lookups(path, one.words, asked), strict=True):
         answer = select(one.table, word)
         probe.stop_at_difference(f"{one.name}, lookup", ("lookup", one.words, word), f"2 0 0 00000000 {answer}", line)
-        if manual_name(one.name, word) != one.mnemonic(answer):
-            stop(f"{one.name}, {word:08x}: the table says {one.mnemonic(answer)}, the manual {manual_name(one.name, word)}")
+        if decoded_name(one.name, word) != one.mnemonic(answer):
+            stop(f"{one.name}, {word:08x}: the table says {one.mnemonic(answer)}, the decoder {decoded_name(one.name, word)}")
         tally[one.name] += 1
         tally[f"{one.name}, entry {answer}"] += 1
 
@@ -183,8 +189,8 @@ def compare_known(path, one, tally):
     for (word, mnemonic), line in zip(known.items(), lookups(path, one.words, list(known)), strict=True):
         answer = line.split(" ")[4]
         seen = one.mnemonic(NOTHING if answer == NOTHING else int(answer))
-        if not seen == mnemonic == manual_name(one.name, word):
-            stop(f"{one.name}, {word:08x}: {mnemonic} is known, seen {seen}, by the manual {manual_name(one.name, word)}")
+        if not seen == mnemonic == decoded_name(one.name, word):
+            stop(f"{one.name}, {word:08x}: {mnemonic} is known, seen {seen}, by the decoder {decoded_name(one.name, word)}")
         tally["known"] += 1
 
 
@@ -224,14 +230,14 @@ def excluded_words(rng, instruction, width):
 
 
 def noticed(rng, one, number):
-    """Whether the manual's decoder differs from the set with this entry altered."""
+    """Whether the decoder differs from the set with this entry altered."""
     before = one.set.instructions[number]
     after = altered(rng, before)
     entries = [*one.set.instructions[:number], after, *one.set.instructions[number + 1:]]
     other = ready(one.name, replace(one.set, instructions=tuple(entries)))
     for _ in range(WORDS_FOR_ALTERED):
         for word in (made_word(rng, before, 32), made_word(rng, after, 32), *excluded_words(rng, before, 32)):
-            if other.mnemonic(select(other.table, word)) != manual_name(one.name, word):
+            if other.mnemonic(select(other.table, word)) != decoded_name(one.name, word):
                 return True
     stop(f"{one.name}, entry {number}: {before} altered to {after} isn't noticed")
 
@@ -241,10 +247,47 @@ def notice_altered(rng, one, tally):
         tally["altered"] += noticed(rng, one, number)
 
 
+# ---------------------------------------------------------------------------- tables that somebody added
+
+def added(folder):
+    """The tables in the folder that this test has no decoder for."""
+    return sorted(file for file in folder.glob("*.table") if file.stem not in DECODERS)
+
+
+def words_in(file):
+    data = file.read_bytes()
+    return list(struct.unpack(f"<{len(data) // 4}I", data[:len(data) // 4 * 4]))
+
+
+def compare_added(path, mktree_path, rng, file, tally):
+    """What probe reads, what mktree prints and what probe selects: the second implementation's, refusals too."""
+    words, data = words_in(file), file.read_bytes()
+    if file.stem in make.SETS and data != table_bytes(make.SETS[file.stem]):
+        stop(f"data/{file.name} isn't what data/make.py makes")
+    mktree.stop_at_difference(file.name, data, mktree_text(data), mktree.text_of(mktree_path, data))
+    width = words[0] & 0xFF if words else 0
+    questions = [("read", words)] + [("lookup", words, rng.getrandbits(min(width, 32) or 32)) for _ in range(ADDED_WORDS)]
+    for question, line in zip(questions, probe.ask(path, questions), strict=True):
+        probe.stop_at_difference(file.name, question, line_of(question), line)
+    tally["added"] += 1
+
+
+def try_added(path, mktree_path, rng):
+    """A folder with tables that a user added: a good one, an ambiguous one, one at fault and an empty file."""
+    tally = Counter()
+    with tempfile.TemporaryDirectory() as folder:
+        for name, words in (("good", examples.WORKED), ("ambiguous", examples.ZERO_HIGH_ZERO_LOW), ("cut", examples.WORKED[:5]), ("empty", [])):
+            (Path(folder) / f"{name}.table").write_bytes(probe.pack(words))
+        for file in added(Path(folder)):
+            compare_added(path, mktree_path, rng, file, tally)
+    if tally["added"] != 4:
+        stop(f"of four added tables {tally['added']} were compared")
+
+
 # ---------------------------------------------------------------------------- all of it
 
 def least(sets):
-    needed = {"known": 85, "listed": len(AVR_LISTING), "altered": ALTERED * len(sets), "tree lines": 10000}
+    needed = {"known": 90, "listed": len(AVR_LISTING), "altered": ALTERED * len(sets), "tree lines": 10000}
     for one in sets:
         needed |= {one.name: 20000, f"{one.name}, made": 7000, f"{one.name}, neighbours": 7000}
         needed |= {f"{one.name}, entry {NOTHING}": 300}
@@ -255,9 +298,9 @@ def least(sets):
 def main():
     path, mktree_path = probe.path_from_arguments(), mktree.path_from_arguments(2)
     rng, tally = random.Random(SEED), Counter()
-    sets = [ready(name, one) for name, one in make.SETS.items()]
-    if sorted(file.stem for file in DATA.glob("*.table")) != sorted(MANUALS) or list(make.SETS) != list(MANUALS):
-        stop("data/ has other tables than this test knows")
+    if missing := sorted(DECODERS.keys() - make.SETS.keys() | {name for name in DECODERS if not (DATA / f"{name}.table").is_file()}):
+        stop(f"data/ lacks {missing}")
+    sets = [ready(name, make.SETS[name]) for name in DECODERS]
     for one in sets:
         compare_file(path, one)
         tree = compare_tree(path, mktree_path, one, tally)
@@ -267,10 +310,14 @@ def main():
         notice_altered(rng, one, tally)
         if one.name == "avr":
             compare_listing(path, one, tree, tally)
+    try_added(path, mktree_path, rng)
+    for file in added(DATA):
+        compare_added(path, mktree_path, rng, file, tally)
     probe.require_enough(tally, least(sets))
     said = ", ".join(f"{one.name}: {tally[one.name]}" for one in sets)
     print(f"compare_data good: {len(sets)} sets, {tally['tree lines']} tree words; words by set {said}; "
-          f"{tally['known']} known words, {tally['listed']} items listed, {tally['altered']} altered sets noticed")
+          f"{tally['known']} known words, {tally['listed']} items listed, {tally['altered']} altered sets noticed; "
+          f"{tally['added']} tables added by others")
 
 
 if __name__ == "__main__":

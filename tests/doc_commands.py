@@ -4,7 +4,7 @@ The ```bash block of docs/TABLES.md holds the definitions that the commands use.
 with it, and the others are what it prints. A comment at a command's end, after two spaces, belongs to the page and not to the command.
 The crates in docs/ARCHITECTURE.md, their levels, what each uses and the theorems are compared with crates.txt and with the sources.
 
-Usage: doc_commands.py [path of probe [path of mktree]]. Exits with status 1 at the first difference.
+Usage: doc_commands.py [path of probe [path of mktree]]. Exits with status 1 at the first difference, or if less was compared than LEAST has.
 """
 
 import re
@@ -19,6 +19,8 @@ import probe
 
 ROOT = Path(__file__).resolve().parent.parent
 PAGES = ["TABLES.md", "mktree.md", "probe.md", "ARCHITECTURE.md"]
+# A page that loses what is compared must not pass.
+LEAST = {"crates": 15, "theorems": 12, "TABLES.md": 90, "mktree.md": 8, "probe.md": 15, "ARCHITECTURE.md": 4}
 DEFINED_IN = "TABLES.md"
 MARK = "@@ next command @@"
 
@@ -67,7 +69,7 @@ def outputs(listed, folder):
     script = [f"PATH={folder}:$PATH", *definitions()]
     for command in listed:
         script += [command.text, f"printf '%s\\n' '{MARK}'"]
-    done = subprocess.run(["bash", "-c", "\n".join(script)], stdin=subprocess.DEVNULL, cwd=ROOT, capture_output=True, text=True, timeout=60)
+    done = subprocess.run(["bash", "-c", "\n".join(script)], stdin=subprocess.DEVNULL, cwd=ROOT, capture_output=True, text=True)
     parts = done.stdout.split(MARK + "\n")
     if done.stderr or len(parts) != len(listed) + 1:
         sys.exit(f"{len(listed)} commands, {len(parts) - 1} of them ended; on standard error: {done.stderr!r}")
@@ -140,14 +142,16 @@ def check_theorems():
 
 
 def check(probe_path, mktree_path):
-    check_crates()
-    check_theorems()
-    return {page: compare(page, probe_path, mktree_path) for page in PAGES}
+    """Compares everything, and gives back the line that says how much it was."""
+    counts = {"crates": check_crates(), "theorems": check_theorems()}
+    counts |= {page: compare(page, probe_path, mktree_path) for page in PAGES}
+    probe.require_enough(counts, LEAST)
+    commands_of = ", ".join(f"{counts[page]} in docs/{page}" for page in PAGES)
+    return f"doc_commands good: commands: {commands_of}; of docs/ARCHITECTURE.md {counts['crates']} crates, {counts['theorems']} theorems"
 
 
 def main():
-    ran = check(probe.path_from_arguments(), mktree.path_from_arguments(2))
-    print("doc_commands good: " + ", ".join(f"{count} in docs/{page}" for page, count in ran.items()))
+    print(check(probe.path_from_arguments(), mktree.path_from_arguments(2)))
 
 
 if __name__ == "__main__":

@@ -1,12 +1,12 @@
-"""Times mktree on the hardest tables that are allowed: the largest tables, every condition open in every cell, trees at
+"""Runs mktree on the hardest tables that are allowed: the largest tables, every condition open in every cell, trees at
 the limit of 16,384 words, and trees that would have 2^32 leaves. The outcomes follow from how the tables are built;
 the second implementation isn't used.
 
-Usage: hardest.py [path of mktree]. Exits with status 1 if an outcome is wrong or takes 2 seconds or more.
+Usage: hardest.py [path of mktree]. Exits with status 1 if an outcome is wrong, or if running.py stops a run because of the processor's
+time. The times that it prints are no test: bench/generate measures.
 """
 
 import random
-import subprocess
 import sys
 import time
 
@@ -16,7 +16,6 @@ from second import tables
 from second.tables import ALL_BITS, MOST_WORDS, EntryPlan, TablePlan, span
 
 SEED = 6
-MOST_SECONDS = 2
 MOST_ENTRIES = 256
 WIDTH = 32
 NOT_FITTING = "refused 5 0 00000000\n"
@@ -133,15 +132,10 @@ def main():
         if len(plan.entries) > MOST_ENTRIES or len(words) > MOST_WORDS or length not in (None, len(words)):
             sys.exit(f"{name}: {len(plan.entries)} entries, {len(words)} words")
         start = time.monotonic()
-        try:
-            seen = mktree.text_of(path, pack(words), seconds=60)
-        except subprocess.TimeoutExpired:
-            sys.exit(f"{name}: no answer in 60 seconds")
+        seen = mktree.text_of(path, pack(words))
         taken = time.monotonic() - start
         mktree.stop_at_difference(name, pack(words), expected, seen)
         print(f"{taken:6.2f} s  {name} ({len(words)} words, {len(plan.entries)} entries)", flush=True)
-        if taken >= MOST_SECONDS:
-            sys.exit(f"{name}: {taken:.2f} seconds, and not under {MOST_SECONDS}")
         times.append(taken)
     print(f"hardest good: {len(times)} tables, the longest took {max(times):.2f} s")
 

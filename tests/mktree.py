@@ -1,8 +1,9 @@
 """Runs the program mktree (document 01, "mktree reads a table from standard input") and gives back what it prints."""
 
-import subprocess
 import sys
 from pathlib import Path
+
+import running
 
 DEFAULT_PATH = Path(__file__).resolve().parent.parent / "target" / "bin" / "mktree"
 MOST_BYTES = 65536
@@ -16,14 +17,9 @@ def path_from_arguments(position=1):
     return path
 
 
-def text_of(path, data, seconds=120):
+def text_of(path, data):
     """What mktree prints for these bytes on its standard input; nothing may be printed elsewhere."""
-    # An input over the limit may be left unread, so the program may end before it has taken all of it.
-    done = subprocess.run([str(path)], input=data, stdout=subprocess.PIPE, stderr=subprocess.PIPE, timeout=seconds)
-    # A signal or a Rust panic (101); document 01 says nothing of other statuses.
-    if done.returncode < 0 or done.returncode == 101:
-        sys.exit(f"mktree broke off with status {done.returncode}: {done.stderr.decode(errors='replace')}")
-    return done.stdout.decode("ascii", errors="replace")
+    return running.output_of(path, data).decode("ascii", errors="replace")
 
 
 def shortened(text):

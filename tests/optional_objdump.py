@@ -1,15 +1,13 @@
-"""Compares the tables in data/ with the disassemblers of GNU binutils. Not part of the gate: a disassembler that isn't
-installed is skipped, with a line that says so.
+"""Compares the tables in data/ with the disassemblers of GNU binutils, as binutils/names.py reads their names. Not part of the gate, which
+has recorded names instead (compare_binutils.py).
 
-AVR: whole images, listed by probe; address, length and name of every item: every halfword, and the code of avr-libc. RISC-V: the name of each word, or nothing, with
-the few exceptions of riscv_stricter. A32: the name of each word for which the table has one; the other way round isn't
-compared, because objdump names words whose "should be" bits are wrong, and instructions that data/ leaves out.
+AVR: whole images, listed by probe; address, length and name of every item: every halfword, and the code of avr-libc. RISC-V and A32: words.
 
-Usage: optional_objdump.py [path of probe]. Exits with status 1 at the first difference.
+Usage: optional_objdump.py [path of probe]. Exits with status 1 at the first difference, and with status 2 if something was not compared because
+a tool is not installed.
 """
 
 import random
-import re
 import shutil
 import struct
 import subprocess
@@ -20,35 +18,28 @@ from pathlib import Path
 
 import compare_data
 import probe
+from binutils.names import (COPROCESSOR, NOTHING, RISCV_ARCHITECTURE, a32_agrees, avr_name, disassembled, other_coprocessor,
+                            riscv_agrees)
 from second.tree import nodes_once, written
 
 SEED = 10
 AVR_HALVES = 60000
 AVR_LIBRARIES = [Path(f"/usr/lib/avr/lib/{core}/libc.a") for core in ("avr4", "avr5", "avr6")]
 AVR_PIECE = 100000
-NOTHING = "nothing"
 
 
-def tools(*names):
-    """Whether these are installed; says which one is missing."""
+class NotInstalled(Exception):
+    """What is missing."""
+
+
+def require_tools(*names):
     for name in names:
         if shutil.which(name) is None:
-            print(f"optional_objdump: skipped, {name} is not installed")
-            return False
-    return True
+            raise NotInstalled(name)
 
 
 def output_of(*command):
-    return subprocess.run(command, stdout=subprocess.PIPE, check=True, timeout=120).stdout.decode()
-
-
-def disassembled(text):
-    """(byte offset, bytes or word in hexadecimal, name, operands) of each instruction that objdump prints."""
-    for line in text.splitlines():
-        parts = line.split("\t")
-        if len(parts) >= 3 and re.fullmatch(r" *[0-9a-f]+:", parts[0]):
-            operands = parts[3] if len(parts) > 3 else ""
-            yield int(parts[0].strip(" :"), 16), parts[1].replace(" ", ""), parts[2].strip(), operands.strip()
+    return subprocess.run(command, stdout=subprocess.PIPE, check=True).stdout.decode()
 
 
 def stop(text):
@@ -57,31 +48,6 @@ def stop(text):
 
 
 # ---------------------------------------------------------------------------- AVR
-
-AVR_SET_BRANCHES = "brcs breq brmi brvs brlt brhs brts brie".split()
-AVR_CLEAR_BRANCHES = "brcc brne brpl brvc brge brhc brtc brid".split()
-AVR_ALIASES = {**{name: "BRBS" for name in AVR_SET_BRANCHES}, **{name: "BRBC" for name in AVR_CLEAR_BRANCHES},
-               **{f"se{flag}": "BSET" for flag in "cznvshti"}, **{f"cl{flag}": "BCLR" for flag in "cznvshti"}}
-
-
-def avr_pointer(name, operands):
-    """Loads and stores by their pointer: `ld r1, Y` is LDD with displacement 0."""
-    pointer = re.search(r"-?[XYZ]\+?", operands)
-    if pointer is None:
-        return name.upper()
-    pointer = pointer.group()
-    if name in ("ldd", "std") or (name in ("ld", "st") and pointer in ("Y", "Z")):
-        return name[:2].upper() + "D " + pointer[0]
-    return f"{name.upper()} {pointer}"
-
-
-def avr_name(name, operands):
-    if name == ".word":
-        return NOTHING
-    if name in AVR_ALIASES:
-        return AVR_ALIASES[name]
-    return avr_pointer(name, operands) if name in ("ld", "ldd", "st", "std", "lpm", "elpm", "spm") else name.upper()
-
 
 def avr_image(rng, one):
     """Every halfword once, then instructions and random halfwords; NOPs at the end, so that nothing is cut off."""
@@ -128,7 +94,7 @@ def compare_avr(path, rng, folder, one):
 
 def library_code(library, folder):
     """The code of each object of a library, one after the other; NOPs after each, so that nothing is cut off."""
-    subprocess.run(["avr-ar", "x", str(library)], cwd=folder, check=True, timeout=120)
+    subprocess.run(["avr-ar", "x", str(library)], cwd=folder, check=True)
     code = b""
     for file in sorted(folder.glob("*.o")):
         output_of("avr-objcopy", "-O", "binary", "-j", ".text*", str(file), str(folder / "code"))
@@ -142,7 +108,7 @@ def compare_avr_libc(path, _, folder, one):
     names = Counter()
     for library in AVR_LIBRARIES:
         if not library.is_file():
-            return f"avr-libc: skipped, no {library}"
+            raise NotInstalled(f"avr-libc ({library})")
         code = library_code(library, folder)
         for start in range(0, len(code), AVR_PIECE):
             names += same_items(path, folder, one, code[start:start + AVR_PIECE] + b"\0\0\0\0")
@@ -151,31 +117,6 @@ def compare_avr_libc(path, _, folder, one):
 
 
 # ---------------------------------------------------------------------------- RISC-V
-
-RISCV_ARCHITECTURE = "rv64imafd_zicsr_zifencei_zihintpause_zfh_zba_zbb_zbc_zbs_zbkb_zbkx_zicbom_zicbop_zicboz"
-# Exact conversions: binutils 2.40 knows them with rounding mode 0 only, the manual gives them the field as well.
-RISCV_EXACT = ("FCVT.D.W", "FCVT.D.WU", "FCVT.S.H", "FCVT.D.S", "FCVT.D.H")
-
-
-def riscv_stricter(word, name):
-    """Where binutils 2.40 knows less than the manual: FENCE and FENCE.I with fields that are to be ignored, a rounding mode of an
-    exact conversion, Zicond (since 2.41)."""
-    if name == "FENCE":
-        return word & 0xF00F8F80 != 0
-    if name == "FENCE.I":
-        return word & 0xFFFF8F80 != 0
-    return name.startswith("CZERO.") or (name in RISCV_EXACT and word & 0x7000 != 0)
-
-
-# Instructions that data/ leaves out: of older drafts of the privileged manual, and of the debug specification.
-RISCV_LEFT_OUT = ("uret", "hret", "sfence.vm", "dret")
-
-
-def riscv_name(name):
-    if name.startswith(".") or name in RISCV_LEFT_OUT:
-        return NOTHING
-    return re.sub(r"\.(aq|rl|aqrl)$", "", name).upper()
-
 
 def riscv_words(rng, one):
     # The assembler takes words whose low bits say "32 bits" only; the table selects nothing else either.
@@ -192,8 +133,7 @@ def compare_riscv(path, rng, folder, one):
     lines = compare_data.lookups(path, one.words, words)
     for word, line, (_, _, theirs, _) in zip(words, lines, disassembled(text), strict=True):
         ours = name_in(one, line)
-        # Where it is stricter it may know nothing; another name it may not have.
-        if riscv_name(theirs) != ours and not (riscv_stricter(word, ours) and riscv_name(theirs) == NOTHING):
+        if not riscv_agrees(word, ours, theirs):
             stop(f"RISC-V {word:08x}: the table has {ours}, objdump {theirs}")
         tally[ours] += 1
     probe.require_enough(tally, {instruction.mnemonic: 5 for instruction in one.set.instructions} | {NOTHING: 300})
@@ -206,32 +146,6 @@ def name_in(one, line):
 
 
 # ---------------------------------------------------------------------------- A32
-
-CONDITIONS = "(eq|ne|cs|cc|mi|pl|vs|vc|hi|ls|ge|lt|gt|le)?"
-MODES = "(ia|da|db|ib)?"
-SETS_FLAGS = "AND EOR SUB RSB ADD ADC SBC RSC ORR BIC MVN MUL MLA UMULL UMLAL SMULL SMLAL".split()
-EXCHANGES = "SMLAD SMUAD SMLSD SMUSD SMLALD SMLSLD".split()
-ROUNDS = "SMMLA SMMUL SMMLS".split()
-# What objdump calls them; v8 has names for some DSB, and a list of one register is an LDM or STM to it.
-A32_NAMES = {
-    "ADR": "(add|sub)", "MOV": "(mov|lsl|lsr|asr|ror|rrx)s?", "DSB": "(dsb|ssbb|pssbb|dfb)", "POP": "(pop|ldmfd)",
-    "PUSH": "(push|stmfd)", "SMLAxy": "smla[bt][bt]", "SMLALxy": "smlal[bt][bt]", "SMULxy": "smul[bt][bt]",
-    "SMLAWy": "smlaw[bt]", "SMULWy": "smulw[bt]", "PKH": "pkh(bt|tb)", "SWP": "swpb?", "CPS": "cps(ie|id)?",
-    "RFE": "rfe" + MODES, "SRS": "srs" + MODES, "STM": "stm(ia)?", "LDM": "ldm(ia|fd)?", "STM user": "stm" + MODES,
-    "LDM user": "ldm" + MODES, "LDM return": "ldm" + MODES, "STC": "stcl?", "LDC": "ldcl?",
-    **{name: name.lower() + "s?" for name in SETS_FLAGS}, **{name: name.lower() + "x?" for name in EXCHANGES},
-    **{name: name.lower() + "r?" for name in ROUNDS}}
-COPROCESSOR = "STC LDC MCRR MRRC CDP MCR MRC".split()
-
-
-def other_coprocessor(word, name):
-    """Other coprocessors than 14 have names of their own in objdump (FPA, Maverick, iWMMXt, M-profile)."""
-    return name in COPROCESSOR and word >> 8 & 15 != 14
-
-
-def a32_agrees(ours, theirs):
-    return re.fullmatch(A32_NAMES.get(ours, ours.lower()) + CONDITIONS, theirs) is not None
-
 
 def a32_words(rng, one):
     """The usual words, and enough for coprocessor 14."""
@@ -271,13 +185,21 @@ COMPARISONS = (("avr", compare_avr, ("avr-objdump",)),
 
 def main():
     path = probe.path_from_arguments()
-    done = []
+    done, missing = [], []
     with tempfile.TemporaryDirectory() as folder:
         for name, compare, needed in COMPARISONS:
-            if tools(*needed):
-                one = compare_data.ready(name, compare_data.make.SETS[name])
+            one = compare_data.ready(name, compare_data.make.SETS[name])
+            try:
+                require_tools(*needed)
                 done.append(compare(path, random.Random(SEED), Path(folder), one))
-    print(f"optional_objdump good: {', '.join(done)}" if done else "optional_objdump: nothing compared")
+            except NotInstalled as what:
+                missing.append(f"{name} ({what} is not installed)")
+    if done:
+        print(f"optional_objdump: compared {', '.join(done)}")
+    if missing:
+        print(f"optional_objdump: NOT COMPARED: {', '.join(missing)}")
+        sys.exit(2)
+    print(f"optional_objdump good: {len(done)} of {len(COMPARISONS)} comparisons")
 
 
 if __name__ == "__main__":

@@ -1,9 +1,10 @@
 """Runs the program `probe` (docs/probe.md) on requests and gives back its lines."""
 
 import struct
-import subprocess
 import sys
 from pathlib import Path
+
+import running
 
 DEFAULT_PATH = Path(__file__).resolve().parent.parent / "target" / "bin" / "probe"
 MOST_BYTES = 1048576
@@ -58,13 +59,10 @@ def question_of(number, parts):
 
 def lines_of(path, data):
     """The lines that probe prints for these bytes. Every line must be ended by a newline."""
-    done = subprocess.run([str(path)], input=data, stdout=subprocess.PIPE, stderr=subprocess.PIPE, timeout=120)
-    # A signal or a Rust panic (101); the format says nothing of other statuses.
-    if done.returncode < 0 or done.returncode == 101:
-        sys.exit(f"probe broke off with status {done.returncode}: {done.stderr.decode(errors='replace')}")
-    if done.stdout and not done.stdout.endswith(b"\n"):
-        sys.exit(f"the last line isn't ended by a newline: {done.stdout[-100:]!r}")
-    return done.stdout.decode("ascii", errors="replace").split("\n")[:-1]
+    printed = running.output_of(path, data)
+    if printed and not printed.endswith(b"\n"):
+        sys.exit(f"the last line isn't ended by a newline: {printed[-100:]!r}")
+    return printed.decode("ascii", errors="replace").split("\n")[:-1]
 
 
 def batches(requests):

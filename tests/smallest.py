@@ -312,8 +312,7 @@ def main():
     each = Counter(cause for cause, _ in seen)
     print("smallest good: " + ", ".join(f"{each[cause]} of {cause}" for cause in sorted(each))
           + f"; {len(cases)} requests, {buffers} lent buffers")
-    ran = doc_commands.check(probe_path, mktree_path)
-    print("doc_commands good: " + ", ".join(f"{count} in docs/{page}" for page, count in ran.items()))
+    print(doc_commands.check(probe_path, mktree_path))
 
 
 main()

@@ -1,5 +1,5 @@
 /*
- * Hostile inputs for kilnumber_walk and kilnumber_list: what they answer against reference.h, and whether they touch other memory.
+ * Hostile inputs for kilnumber_walk, kilnumber_check and kilnumber_list: what they answer against reference.h, and whether they touch other memory.
  *
  * Usage: fuzz trees lists walks listings (files of tests/c/make_trees.py and make_lists.py, then how many of each).
  * Inputs are altered at random; an input that came to a new place of the reference (check, index or tests passed) is kept and
@@ -72,7 +72,7 @@ static void require_same(const void *lent, const void *from, size_t bytes) {
 /* ------------------------------------------------------------------------- stand-in for the library */
 
 static unsigned wrong; /* a check that is left out, or one of these */
-enum { LEAF_COUNTED = LIST_END + 1, READS_PAST, WRITES_TREE, ITEM_AFTER, PLACE_AFTER, LAST_WRONG };
+enum { LEAF_COUNTED = LIST_END + 1, READS_PAST, WRITES_TREE, ITEM_AFTER, PLACE_AFTER, CHECK_IS_YES, CHECK_PLACE, LAST_WRONG };
 
 #ifdef STAND_IN
 uint64_t kilnumber_walk(const uint8_t *tree, size_t length, uint32_t word) {
@@ -81,6 +81,13 @@ uint64_t kilnumber_walk(const uint8_t *tree, size_t length, uint32_t word) {
     struct walked walked = reference_walk(tree, length, word, (enum check)wrong);
     if (wrong == LEAF_COUNTED && walked.number == 0) walked.tests++;
     return packed(walked);
+}
+
+uint64_t kilnumber_check(const uint32_t *table, size_t table_words, const uint32_t *tree, size_t tree_words) {
+    uint64_t result = reference_check(table, table_words, tree, tree_words, (enum check)wrong);
+    if (wrong == CHECK_IS_YES && result >> 32 == 14) result = 0;
+    if (wrong == CHECK_PLACE && result >> 32 <= 4) result = result >> 32 << 32;
+    return result;
 }
 
 uint64_t kilnumber_list(const uint32_t *table, size_t table_words, const uint32_t *tree, size_t tree_words, const uint8_t *image,
@@ -103,7 +110,7 @@ struct input {
 
 static struct input kept[MOST_KEPT];
 static size_t kept_count;
-static uint64_t walks, listings, by_number[10], by_list_number[18], by_check[LIST_END + 1];
+static uint64_t walks, listings, by_number[10], by_list_number[18], by_check_number[18], by_check[LIST_END + 1];
 
 static void keep(const uint8_t *bytes, size_t length) {
     if (kept_count == MOST_KEPT) return;
@@ -308,6 +315,17 @@ static void alter_listing(struct listing *listing) {
 
 static struct area table_area, tree_area, image_area, items_area;
 
+static void compare_check(struct lent lent) {
+    uint64_t expected = reference_check(lent.table, lent.table_words, lent.tree, lent.tree_words, NONE);
+    uint64_t seen = kilnumber_check(lent.table, lent.table_words, lent.tree, lent.tree_words);
+    if (seen != expected) {
+        printf("fuzz: a check (%zu table words, %zu tree words): expected %016llx, seen %016llx\n", lent.table_words, lent.tree_words,
+               (unsigned long long)expected, (unsigned long long)seen);
+        exit(1);
+    }
+    by_check_number[expected >> 32]++;
+}
+
 static void compare_listing(struct listing *listing, int too_long) {
     static uint32_t wanted[MOST_LIST_WORDS], marked[MOST_LIST_WORDS];
     struct lent lent = listing->lent;
@@ -330,6 +348,7 @@ static void compare_listing(struct listing *listing, int too_long) {
                seen == expected ? ", other items" : "");
         exit(1);
     }
+    compare_check(lent);
     require_same(lent.table, listing->table, 4 * lent.table_words);
     require_same(lent.tree, listing->tree, 4 * lent.tree_words);
     if (!too_long) require_same(lent.image, listing->image, lent.image_bytes);
@@ -425,6 +444,8 @@ static void require_each(uint64_t least) {
             printf("fuzz: only %llu inputs came to %s\n", (unsigned long long)by_check[check], names[check]);
             exit(1);
         }
+    for (int number = 0; number <= 14; number = number == 4 ? 14 : number + 1)
+        if (by_check_number[number] < least) stop("too few checks of a number");
 }
 
 int main(int arguments, char **argument) {
@@ -447,7 +468,7 @@ int main(int arguments, char **argument) {
            (unsigned long long)(by_list_number[1] + by_list_number[2] + by_list_number[3] + by_list_number[4]),
            (unsigned long long)by_list_number[14], (unsigned long long)by_list_number[15], (unsigned long long)by_list_number[16],
            (unsigned long long)by_list_number[17]);
-    printf("fuzz good: %llu walks in %.1f s, %llu listings in %.1f s; differences 0, faults 0; kept %zu trees over %zu given, %zu listings over %zu\n",
+    printf("fuzz good: %llu walks in %.1f s, %llu listings and as many checks in %.1f s; differences 0, faults 0; kept %zu trees over %zu given, %zu listings over %zu\n",
            (unsigned long long)walks, between - before, (unsigned long long)listings, after - between, kept_count - given, given,
            list_count - given_lists, given_lists);
     return 0;

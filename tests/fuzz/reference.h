@@ -1,5 +1,5 @@
 /*
- * The walk and the listing of document 01, written from that paper alone, for fuzz.c. Sentences in quotes are the paper's.
+ * The walk, the check and the listing of document 01, written from that paper alone, for fuzz.c. Sentences in quotes are the paper's.
  *
  * Each check has a name, and a check is left out where its name is `without`: so the same text is the reference (NONE) and a row of
  * wrong ones, and the checks that a walk came by say how far an input got.
@@ -329,6 +329,15 @@ static int accepts(struct table *table, const uint32_t *tree, size_t tree_words,
     return end != 0 && (end == checking.nodes + 1 || without == ALL_USED);
 }
 
+static uint64_t refused_list(uint32_t number, size_t place) { return (uint64_t)number << 32 | (uint64_t)place; }
+
+/* "After 1-4 it says yes exactly when: ..; otherwise its answer is 14." */
+static uint64_t reference_check(const uint32_t *words, size_t count, const uint32_t *tree, size_t tree_words, enum check without) {
+    struct table table = {words, count, 0, 0, 0, 0, 0, {0}, NONE, without};
+    if (!read_table(&table)) return refused_list(table.number, table.place);
+    return accepts(&table, tree, tree_words, without) ? 0 : refused_list(14, 0);
+}
+
 /* ------------------------------------------------------------------------- the listing */
 
 struct lent {
@@ -345,8 +354,6 @@ static int no_image_table(const struct table *table, enum check without) {
     }
     return 0;
 }
-
-static uint64_t refused_list(uint32_t number, size_t place) { return (uint64_t)number << 32 | (uint64_t)place; }
 
 /* "listing 15, 16, 14, 17". What a word selects is looked up in the table; the tree is only checked. */
 static uint64_t reference_list(struct lent lent, uint32_t *items, enum check without, enum check *stopped_by) {

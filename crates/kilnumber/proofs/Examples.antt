@@ -8,7 +8,8 @@ use Rattle.words.specs.Bytes.{wordOf, wordsOf}
 use Rattle.flat.specs.Nodes.{headerRest, headerOf, testNode, namesNode, nothingNode, nodeOf}
 use Rattle.tree.specs.Walk.{path, enters, walkOf}
 use Rattle.walker.specs.Walked.{walkBytes}
-use Rattle.kilnumber.specs.Packed.{packed}
+use Rattle.table.specs.Outcome.{refused}
+use Rattle.kilnumber.specs.Packed.{packed, packedCheck}
 
 -- what the call answers, with every definition open
 unfoldable answered : List ℕ → ℕ → ℕ
@@ -40,3 +41,10 @@ odd-is = refl
 damaged-is : packed (walkBytes (1 ∷ 0 ∷ 2 ∷ 0x70 ∷ 0 ∷ 0 ∷ 0 ∷ 0xb0 ∷ []) 0) ≡ 0x1000900000000
 unfolding answered
 damaged-is = refl
+
+-- a check: no (14); a table that ends early at word 4 (2)
+no-is : packedCheck (refused 14 0 0) ≡ 0xe00000000
+no-is = refl
+
+fault-is : packedCheck (refused 2 4 0) ≡ 0x200000004
+fault-is = refl

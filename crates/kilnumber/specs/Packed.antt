@@ -1,4 +1,4 @@
--- The answers of a walk and of a listing in 64 bits, for C ('Written form').
+-- The answers of a walk, of a check and of a listing in 64 bits, for C ('Written form').
 use Prim.Native.Nat.{ℕ, _+_, _*_, _^_}
 use mathlib.Core.Path.{_≡_}
 use mathlib.Core.List.{List}
@@ -25,6 +25,11 @@ abbrev pub packedItems : Outcome ℕ → ℕ
 packedItems (result n) = n
 packedItems (faulty number place) = number * 2 ^ 32 + place
 packedItems (refused number place w) = number * 2 ^ 32 + place
+
+-- a check's, laid out as a listing's: 0 for yes
+abbrev pub packedCheck : Outcome Unit → ℕ
+packedCheck (result u) = 0
+packedCheck (refused number place w) = number * 2 ^ 32 + place
 
 -- listing for C answers what the definition says, and the whole buffer is as the definition says
 pub record ListsPacked (ws tree image before after : List ℕ) (r : ℕ) : Type 0 where

@@ -1,12 +1,15 @@
-// The C face: a walk of a tree that is given as bytes, and the listing of an image; each answer in 64 bits. include/kilnumber.h is
-// its header.
+// The C face: a walk of a tree that is given as bytes, the check of a tree against its table, and the listing of an image; each
+// answer in 64 bits. include/kilnumber.h is its header.
 use image::Listed;
+use tree::Checked;
 use walker::Walked;
 ghost use mathlib.Core.Path.{_≡_};
 ghost use Prim.Native.Nat.{ℕ};
 ghost use Rattle.walker.specs.Walked.{said, Small, walkBytes};
 ghost use Rattle.image.specs.Listing.{saidList};
-ghost use Rattle.kilnumber.specs.Packed.{packed, packedItems, ListsPacked};
+ghost use Rattle.table.specs.Check.{readTable};
+ghost use Rattle.tree.specs.Checker.{checkOf, said as saidCheck};
+ghost use Rattle.kilnumber.specs.Packed.{packed, packedItems, packedCheck, ListsPacked};
 
 // An answer in 64 bits.
 fn pack(answer: Walked) -> u64
@@ -52,4 +55,24 @@ pub extern "C" fn kilnumber_list(table: &[u32], tree: &[u32], image: &[u8], out:
 {
     let answer = image::list(table, tree, image, out);
     pack_items(answer)
+}
+
+// A check's answer in 64 bits.
+fn pack_check(answer: Checked) -> u64
+    ensures { λ r. ⌜ r ≡ packedCheck (saidCheck answer) ⌝ }
+{
+    match answer {
+        Checked::Yes => 0,
+        Checked::No => 14 * 4294967296,
+        Checked::Refused(number, place) => (number as u64) * 4294967296 + (place as u64),
+    }
+}
+
+// What a simulator calls once, for a tree that it did not make: whether it is right for the table.
+#[no_mangle]
+pub extern "C" fn kilnumber_check(table: &[u32], tree: &[u32]) -> u64
+    ensures { λ r. ⌜ r ≡ packedCheck (checkOf (readTable (now (table .entry))) (now (tree .entry))) ⌝ }
+{
+    let answer = tree::check(table, tree);
+    pack_check(answer)
 }

@@ -1,6 +1,6 @@
-"""RV64 by opcode, funct3 and funct7, as the manual's instruction listings have them (hexadecimal opcodes, decimal functs)."""
+"""RV64 by opcode, funct3 and funct7, in the way of the manual's instruction listings (hexadecimal opcodes, decimal functs)."""
 
-from manuals import part
+from decoders import part
 
 BRANCH = {0: "BEQ", 1: "BNE", 4: "BLT", 5: "BGE", 6: "BLTU", 7: "BGEU"}
 LOAD = {0: "LB", 1: "LH", 2: "LW", 3: "LD", 4: "LBU", 5: "LHU", 6: "LWU"}

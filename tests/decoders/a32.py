@@ -1,8 +1,8 @@
-"""A32 by the encoding tables of ARM DDI 0406C, chapter A5, one function a section. A word whose "should be" bits are wrong has
+"""A32 in the order of the encoding tables of ARM DDI 0406C, chapter A5, one function a section. A word whose "should be" bits are wrong has
 no name.
 """
 
-from manuals import part
+from decoders import part
 
 OPERATIONS = ["AND", "EOR", "SUB", "RSB", "ADD", "ADC", "SBC", "RSC", "TST", "TEQ", "CMP", "CMN", "ORR", "MOV", "BIC", "MVN"]
 MULTIPLIES = ["MUL", "MLA", None, None, "UMULL", "UMLAL", "SMULL", "SMLAL"]
@@ -77,7 +77,7 @@ def msr_and_hints(word):
         return "MSR"
     if bit(word, 22) or nibbles(word, 8) != (0,):
         return None
-    return "DBG" if nibbles(word, 4) == (15,) else HINTS.get(part(word, 7, 0))
+    return "DBG" if nibbles(word, 4) == (15,) else HINTS.get(part(word, 7, 0), "HINT")
 
 
 def multiplies(word):
@@ -274,9 +274,13 @@ def hints_and_memory(word, op1):
     if op1 == 0x57:
         return barriers(word)
     # Bits 27-25: 010 immediate, 011 register with bit 4 zero; the kind is what is left without U.
-    if part(op1, 7, 5) not in (2, 3) or rt != 15 or (bit(word, 25) and bit(word, 4)):
+    if part(op1, 7, 5) not in (2, 3) or (bit(word, 25) and bit(word, 4)):
         return None
     kind = bit(word, 24), part(word, 22, 20)
+    if kind == (0, 1):
+        return "MEMORY HINT"    # unallocated, whatever its other bits
+    if rt != 15:
+        return None
     if kind == (1, 1):
         return when(bit(word, 25) or rn != 15, "PLDW")
     return {(1, 5): "PLD", (0, 5): "PLI"}.get(kind)

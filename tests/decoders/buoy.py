@@ -1,6 +1,6 @@
 """The buoy's controller as its simulator would decode it: the first nibble, then the story of the versions in data/buoy.py."""
 
-from manuals import part
+from decoders import part
 
 PLAIN = {4: "SET", 5: "READ", 6: "WRITE", 7: "LOAD", 8: "STORE", 10: "CALL", 12: "SHIFT", 13: "COMPARE"}
 LONG = {0: "SEND", 1: "RECEIVE", 2: "FAR CALL"}

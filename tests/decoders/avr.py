@@ -4,7 +4,7 @@ The AVR Instruction Set Manual has no decode table of its own; this is the order
 halfword never decides anything.
 """
 
-from manuals import part
+from decoders import part
 
 TWO_REGISTERS = {1: ["CPC", "SBC", "ADD"], 2: ["CPSE", "CP", "SUB", "ADC"], 3: ["AND", "EOR", "OR", "MOV"]}
 IMMEDIATE = {3: "CPI", 4: "SBCI", 5: "SUBI", 6: "ORI", 7: "ANDI", 12: "RJMP", 13: "RCALL", 14: "LDI"}

@@ -1,0 +1,90 @@
+/*
+ * The header's names, accessors and helpers; compiled as C and as C++, linked with the library. Every number here is document 01's
+ * and not taken from the header.
+ *
+ * The table: width 32, entry 0 of 16 bits `1...`, entry 1 of 32 bits `01..`. Its tree tests bit 31, then bit 30.
+ */
+
+#include <stdio.h>
+#include <stdlib.h>
+#include <string.h>
+
+#include "kilnumber.h"
+
+static const uint32_t table[] = {0x10020020, 0x20001010, 0x80000000, 0x80000000, 0x3000100f,
+                                 0x20012010, 0xc0000000, 0x40000000, 0x3000001e};
+static const uint8_t tree_bytes[] = {5, 0, 0x20, 0x70, 5, 0, 0x80, 0x8f, 4, 0, 0, 0x8f, 0, 0, 0, 0xa0, 1, 0, 0, 0x90, 0, 0, 0, 0x90};
+#define TREE_WORDS (sizeof tree_bytes / 4)
+
+static unsigned compared;
+
+static void expect(const char *what, uint64_t seen, uint64_t wanted) {
+    compared++;
+    if (seen == wanted) return;
+    printf("difference: %s is %llx, and not %llx\n", what, (unsigned long long)seen, (unsigned long long)wanted);
+    exit(1);
+}
+
+static void names(void) {
+    static const int refusals[] = {KILNUMBER_NO_REFUSAL, KILNUMBER_TABLE_START, KILNUMBER_TABLE_WORD, KILNUMBER_TABLE_PATTERN,
+                                   KILNUMBER_TABLE_FIELD, KILNUMBER_HIGH_WORD, KILNUMBER_TREE_HEADER, KILNUMBER_DAMAGED_NODE,
+                                   KILNUMBER_WRONG_TREE, KILNUMBER_NO_IMAGE_TABLE, KILNUMBER_BAD_IMAGE, KILNUMBER_NO_ROOM};
+    static const int numbers[] = {0, 1, 2, 3, 4, 7, 8, 9, 14, 15, 16, 17};
+    for (size_t at = 0; at < sizeof numbers / sizeof numbers[0]; at++)
+        expect("a refusal's number", (uint64_t)refusals[at], (uint64_t)numbers[at]);
+    expect("an item's kind", kilnumber_item_kind(0xc2a00005), KILNUMBER_INSTRUCTION);
+    expect("an item's entry", kilnumber_item_entry(0xcff00005), 255);
+    expect("an item's address", kilnumber_item_address(0xc2afffff), 0xfffff);
+    expect("kind 13", kilnumber_item_kind(0xd0000000), KILNUMBER_UNKNOWN);
+    expect("kind 14", kilnumber_item_kind(0xe0000000), KILNUMBER_CUT_OFF);
+}
+
+static void one_tree(uint32_t *tree) {
+    kilnumber_words(tree_bytes, TREE_WORDS, tree);
+    expect("the first word", tree[0], 0x70200005);
+    expect("the last word", tree[TREE_WORDS - 1], 0x90000000);
+    for (uint32_t top = 0; top < 16; top++)
+        expect("a walk by words", kilnumber_walk_words(tree, TREE_WORDS, top << 28), kilnumber_walk(tree_bytes, sizeof tree_bytes, top << 28));
+    uint64_t result = kilnumber_walk_words(tree, TREE_WORDS, 0x40000000);
+    expect("entry 1", kilnumber_entry(result), 1);
+    expect("two tests", kilnumber_tests(result), 2);
+    expect("nothing", (uint64_t)kilnumber_is_nothing(kilnumber_walk_words(tree, TREE_WORDS, 0)), 1);
+    expect("number 8", kilnumber_number(kilnumber_walk(tree_bytes, 7, 0)), KILNUMBER_TREE_HEADER);
+}
+
+static void check(const uint32_t *tree) {
+    uint32_t other[TREE_WORDS];
+    memcpy(other, tree, sizeof other);
+    other[5] = 0x90000001; /* well formed, but words with bit 31 select entry 0 */
+    expect("yes", kilnumber_check(table, 9, tree, TREE_WORDS), 0);
+    expect("no", kilnumber_number(kilnumber_check(table, 9, other, TREE_WORDS)), KILNUMBER_WRONG_TREE);
+    expect("the walk of it goes on", kilnumber_walk_words(other, TREE_WORDS, 0x80000000), 0x10001);
+    uint64_t cut = kilnumber_check(table, 8, tree, TREE_WORDS);
+    expect("a table that ends early", kilnumber_number(cut), KILNUMBER_TABLE_WORD);
+    expect("its place", kilnumber_list_place(cut), 8);
+}
+
+static void list(const uint32_t *tree) {
+    static const uint8_t image[] = {0, 0x80, 0, 0, 0, 0x40, 1, 0, 0, 0x40}; /* 8000, 0000, 4000 0001, 4000 */
+    uint32_t items[4] = {0, 0, 0, 0};
+    uint64_t result = kilnumber_list(table, 9, tree, TREE_WORDS, image, sizeof image, items, 4);
+    expect("four items", result, 4);
+    expect("the number of items", kilnumber_items(result), 4);
+    expect("an instruction", items[0], 0xc0000000);
+    expect("an unknown halfword", items[1], 0xd0000001);
+    expect("an instruction of two", items[2], 0xc0100002);
+    expect("one that is cut off", items[3], 0xe0000004);
+    result = kilnumber_list(table, 9, tree, TREE_WORDS, image, sizeof image, items, 2);
+    expect("no room", kilnumber_number(result), KILNUMBER_NO_ROOM);
+    expect("the first left out", kilnumber_list_place(result), 2);
+}
+
+int main(void) {
+    uint32_t tree[TREE_WORDS];
+    names();
+    one_tree(tree);
+    check(tree);
+    list(tree);
+    printf("header good: %u compared\n", compared);
+    return 0;
+}

@@ -1,0 +1,211 @@
+#!/usr/bin/env bash
+# Builds the C examples as their own comments say, under gcc's sanitizers, and runs them: simulator.c on the worked table, on words of 16 and
+# 32 bits and on each refusal; lister.c on an AVR image, on the buoy's table and on each refusal. Every expected line is written here by hand. Then
+# it shows that edits of the examples are noticed.
+# It needs gcc and python3, target/bin/mktree and the library; tests/run has just built that one (tests/c/run).
+set -eu
+cd "$(dirname "$0")/.."
+
+out=target/examples
+library=target/staticlib/libkilnumber.a
+mkdir -p "$out"
+[ -f "$library" ] || rt staticlib kilnumber > "$out/staticlib.log" 2>&1 || { cat "$out/staticlib.log"; exit 1; }
+
+build() { # source, program
+    gcc -std=c11 -O1 -Wall -Wextra -Werror -fsanitize=address,undefined -Iinclude "$1" "$library" -o "$2"
+}
+
+words() { # words in hexadecimal, as a file of words: low byte first
+    for word in "$@"; do printf "\\x${word:6:2}\\x${word:4:2}\\x${word:2:2}\\x${word:0:2}"; done
+}
+
+target/bin/mktree < examples/worked.table | python3 examples/tree_file.py "$out/worked.tree"
+target/bin/mktree < data/avr.table | python3 examples/tree_file.py "$out/avr.tree"
+target/bin/mktree < data/buoy.table | python3 examples/tree_file.py "$out/buoy.tree"
+# One entry, 1--..-, of width 16, 32 and 3, and the trees of these: bit 15, 31 or 2 is tested.
+words 10010010 20001010 00008000 00008000 3000000f > "$out/sixteen.table"
+words 70100003 87800003 a0000000 90000000 > "$out/sixteen.tree"
+words 10010020 20002010 80000000 80000000 3000001f > "$out/thirty_two.table"
+words 70200003 8f800003 a0000000 90000000 > "$out/thirty_two.tree"
+words 10010003 20000310 00000004 00000004 30000002 > "$out/three.table"
+words 70030003 81000003 a0000000 90000000 > "$out/three.tree"
+words 10010003 20000310 00000004 00000004 > "$out/early.table"      # ends before the field
+words 70030003 81000004 a0000000 90000000 > "$out/damaged.tree"     # the one side is past the last node
+words 70030003 81000003 90000000 90000000 > "$out/other.tree"       # well formed, and another table's
+head -c 15 "$out/three.tree" > "$out/cut.tree"
+printf '0 7\n' > "$out/seven.currents"
+printf '\x00\x80\x80\x00\x01\xff' > "$out/sixteen.image"
+printf '\x00\x00\x00\x80\x80\x00\x00\x00\x01\x00\x00\xff' > "$out/thirty_two.image"
+printf '\x04\x08\x00' > "$out/three.image"                          # the second word is no word of three bits
+printf '5 7\n' > "$out/other.currents"
+printf '0 7\n0 8\n' > "$out/twice.currents"
+printf '0 seven\n' > "$out/text.currents"
+printf '\x00\x0f\xf3\x1f\x00\xe0\x34\x12\x00\xb1\x00\xe0' > "$out/buoy.image"  # 0f00 1ff3 e000 1234 b100 e000
+
+cat > "$out/simulator.expected" <<'END'
+entry   0:        3 times    120 uA =          360
+entry   1:        1 times     95 uA =           95
+entry   2:        1 times    210 uA =          210
+entry   3:        1 times    215 uA =          215
+entry   4:        1 times     80 uA =           80
+entry   5:        1 times     82 uA =           82
+entry   6:        3 times    340 uA =         1020
+total:           11 words           =         2062 microampere cycles
+unknown words: 2
+status 0
+entry   0:        2 times      7 uA =           14
+total:            2 words           =           14 microampere cycles
+unknown words: 1
+status 0
+entry   0:        2 times      7 uA =           14
+total:            2 words           =           14 microampere cycles
+unknown words: 1
+status 0
+refused 7: byte 1: the word 00000008 has a bit at or above the tree's width
+entry   0:        1 times      7 uA =            7
+total:            1 words           =            7 microampere cycles
+unknown words: 1
+refused words: 1
+status 1
+refused 14: the tree is not right for the table
+status 1
+refused 14: the tree is not right for the table
+status 1
+refused 14: the tree is not right for the table
+status 1
+refused 2: word 4 of the table is at fault
+status 1
+byte 0: entry 0 has no current
+status 1
+status 2
+status 2
+status 2
+status 2
+status 2
+status 2
+END
+
+cat > "$out/lister.expected" <<'END'
+     0: 940c 0034  entry 77
+     4: 2411       entry 15
+     6: be1f       entry 87
+     8: efcf       entry 90
+     a: e0d8       entry 90
+     c: bfde       entry 87
+     e: bfcd       entry 87
+    10: 940e 0040  entry 78
+    14: 940c 0045  entry 77
+    18: ef8f       entry 90
+    1a: 9380 0100  entry 40
+    1e: 9180 0100  entry 27
+    22: 9701       entry 80
+    24: f7f1       entry 92
+    26: ffff       unknown
+    28: 9508       entry 63
+    2a: 94f8       entry 62
+    2c: cfff       entry 88
+    2e: 940c       cut off
+status 0
+     0: 0f00       entry 13
+     2: 1ff3       entry 1
+     4: e000 1234  entry 19
+     8: b100       unknown
+     a: e000       cut off
+status 0
+status 0
+refused 14: the tree is not right for the table
+status 1
+refused 15: the table is not for images
+status 1
+refused 16: the image is odd or too long
+status 1
+refused 2: word 4 of the table is at fault
+status 1
+status 2
+status 2
+END
+
+run() { # program, its files
+    local status=0
+    ASAN_OPTIONS=allocator_may_return_null=1 "$@" 2> "$out/stderr" || status=$?
+    if grep -q 'ERROR: .*Sanitizer\|runtime error' "$out/stderr"; then cat "$out/stderr"; fi
+    if [ "$status" = 2 ] && ! [ -s "$out/stderr" ]; then echo 'no reason'; fi
+    echo "status $status"
+}
+
+simulator_runs() { # program
+    run "$1" examples/worked.table "$out/worked.tree" examples/worked.currents examples/worked.image
+    run "$1" "$out/sixteen.table" "$out/sixteen.tree" "$out/seven.currents" "$out/sixteen.image"
+    run "$1" "$out/thirty_two.table" "$out/thirty_two.tree" "$out/seven.currents" "$out/thirty_two.image"
+    run "$1" "$out/three.table" "$out/three.tree" "$out/seven.currents" "$out/three.image"
+    run "$1" "$out/three.table" "$out/damaged.tree" "$out/seven.currents" "$out/three.image"
+    run "$1" "$out/three.table" "$out/other.tree" "$out/seven.currents" "$out/three.image"
+    run "$1" "$out/three.table" /dev/null "$out/seven.currents" "$out/three.image"
+    run "$1" "$out/early.table" "$out/three.tree" "$out/seven.currents" "$out/three.image"
+    run "$1" "$out/three.table" "$out/three.tree" "$out/other.currents" "$out/three.image"
+    run "$1" "$out/sixteen.table" "$out/sixteen.tree" "$out/seven.currents" "$out/three.image"  # the last word is not whole
+    run "$1" "$out/three.table" "$out/cut.tree" "$out/seven.currents" "$out/three.image"
+    run "$1" "$out/three.table" "$out/three.tree" "$out/seven.currents" "$out/no_such_file"
+    run "$1" "$out/three.table" "$out/three.tree" "$out/seven.currents" "$out"                  # a folder
+    run "$1" "$out/three.table" "$out/three.tree" "$out/twice.currents" "$out/three.image"
+    run "$1" "$out/three.table" "$out/three.tree" "$out/text.currents" "$out/three.image"
+}
+
+lister_runs() { # program
+    run "$1" data/avr.table "$out/avr.tree" examples/avr.image
+    run "$1" data/buoy.table "$out/buoy.tree" "$out/buoy.image"
+    run "$1" data/avr.table "$out/avr.tree" /dev/null                    # an image without bytes has no items
+    run "$1" data/avr.table "$out/buoy.tree" examples/avr.image
+    run "$1" "$out/three.table" "$out/three.tree" examples/avr.image
+    run "$1" data/avr.table "$out/avr.tree" "$out/three.image"           # three bytes
+    run "$1" "$out/early.table" "$out/three.tree" examples/avr.image
+    run "$1" data/avr.table "$out/cut.tree" examples/avr.image
+    run "$1" data/avr.table "$out/avr.tree" "$out"
+}
+
+try_example() { # name; standard input: an edit a line, each of which makes one thing wrong, so that the lines must differ
+    local edits=0 edit
+    build "examples/$1.c" "$out/$1"
+    "$1_runs" "$out/$1" > "$out/$1.seen"
+    diff "$out/$1.expected" "$out/$1.seen" || { echo "examples: $1 prints not the expected lines"; exit 1; }
+    while IFS= read -r edit; do
+        sed "$edit" "examples/$1.c" > "$out/edited.c"
+        sed "$edit" examples/files.h > "$out/files.h"
+        if cmp -s "examples/$1.c" "$out/edited.c" && cmp -s examples/files.h "$out/files.h"; then
+            echo "examples: $1: the edit $edit changes nothing"
+            exit 1
+        fi
+        gcc -std=c11 -O0 -Iinclude "$out/edited.c" "$library" -o "$out/edited"
+        "$1_runs" "$out/edited" > "$out/edited.seen" 2>&1
+        if cmp -s "$out/$1.expected" "$out/edited.seen"; then echo "examples: $1: the edit $edit is not noticed"; exit 1; fi
+        edits=$((edits + 1))
+    done
+    echo "$1 good: $(grep -c '^status' "$out/$1.expected") runs, $edits of $edits edits noticed"
+}
+
+try_example simulator <<'END'
+s/at\[byte\] << 8 \* byte/at[byte] << 8 * (size - 1 - byte)/
+s/width <= 16 ? 2 : 4/width <= 16 ? 2 : 2/
+s/account->unknown++/account->unknown/
+s/if (kilnumber_is_nothing(result))/if (0)/
+s/account->count\[entry\]++/account->count[entry] = 1/
+s/charge += its/charge = its/
+s/== KILNUMBER_HIGH_WORD/== 99/
+s/ended || account.refused != 0/ended/
+s/return number != 0;/return 0;/
+s/number == KILNUMBER_WRONG_TREE/number != 0/
+s/kilnumber_list_place(result)/kilnumber_place(result)/
+s/if (bytes.count % 4 != 0)/if (0)/
+s/if (image.count % size != 0)/if (0)/
+s/entry >= ENTRIES || account->has_current\[entry\]/entry >= ENTRIES/
+END
+try_example lister <<'END'
+s/at + 1 < kilnumber_items(result) ? kilnumber_item_address(items\[at + 1\])/0 ? 0/
+s/case KILNUMBER_CUT_OFF/case 99/
+s/case KILNUMBER_INSTRUCTION/case 98/
+s/return refused;/return 0;/
+s/size_t room = image.count \/ 2;/size_t room = image.count \/ 4;/
+s/number == KILNUMBER_BAD_IMAGE/number == 99/
+s/if (bytes.count % 4 != 0)/if (0)/
+s/image.at\[2 \* at + 1\], image.at\[2 \* at\]/image.at[2 * at], image.at[2 * at + 1]/
+END
