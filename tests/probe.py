@@ -1,4 +1,4 @@
-"""Runs the program `probe` (probe-format.md) on requests and gives back its lines."""
+"""Runs the program `probe` (docs/probe.md) on requests and gives back its lines."""
 
 import struct
 import subprocess

@@ -1,4 +1,4 @@
-"""Tests of the framing of probe-format.md: what is a whole request, and where probe stops.
+"""Tests of the framing of docs/probe.md: what is a whole request, and where probe stops.
 
 Usage: probe_format.py [path of probe]. Exits with status 1 at the first difference. Every expected line is written
 by hand. The only request asked for is 1; unknown numbers are 0, 11 and larger, because 2 to 10 are or will be known.

@@ -1,4 +1,4 @@
-"""Tests of the framing of requests 2 to 10 (probe-format.md): cut after each word, counts too large, trailing
+"""Tests of the framing of requests 2 to 10 (docs/probe.md): cut after each word, counts too large, trailing
 bytes, and lines longer than probe's line buffer. Whole requests get the second implementation's line.
 
 Usage: probe_requests.py [path of probe]. Exits with status 1 at the first difference. It stands beside probe.py.

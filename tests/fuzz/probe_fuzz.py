@@ -1,6 +1,6 @@
-"""Random and altered request streams for probe: each must end, without a fault, with the lines that probe-format.md asks for.
+"""Random and altered request streams for probe: each must end, without a fault, with the lines that docs/probe.md asks for.
 
-Usage: probe_fuzz.py streams [path of probe]. The framing is written here from probe-format.md; whole requests get the second
+Usage: probe_fuzz.py streams [path of probe]. The framing is written here from docs/probe.md; whole requests get the second
 implementation's line. It also shows that mistakes in the framing would give other lines for some of these streams.
 """
 

@@ -1,4 +1,4 @@
-"""Tables and questions written by hand, with the lines of probe-format.md that document 01 asks for.
+"""Tables and questions written by hand, with the lines of docs/probe.md that document 01 asks for.
 
 Nothing here is computed by the second implementation: every number and place was written out by reading document 01.
 """

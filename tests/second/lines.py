@@ -1,4 +1,4 @@
-"""The line of probe-format.md that the second implementation gives for a question."""
+"""The line of docs/probe.md that the second implementation gives for a question."""
 
 from second import selection
 from second.checker import check
