@@ -25,7 +25,7 @@ WORDS = [
     (r"\bcommit [0-9a-f]{7,}\b", "see commit 0123abc"),
     (r"\bshared/", "shared/01-scope.md"),
     (r"(?<![\w.$}/-])/(work|home|root|tmp|opt|mnt)\b", "it lies in /work/main"),
-    (r"\bdocument (02|90)\b", "as document 02 asks"),
+    (r"\bdocument 90\b", "as document 90 advises"),
 ]
 
 # Folders of the repository. In a page, `folder/..` must be there; * and ** stand for any name.
