@@ -94,7 +94,7 @@ def check_edit(last, token):
     if not crate:
         raise Stale("not of the form crate/label")
     if not list((CRATES / crate / "must-fail").glob(f"{label}.edit")):
-        found = [path.parts[-3] for path in sorted(CRATES.glob(f"*/must-fail/{label}.edit"))]
+        found = [path.parts[-3] for path in sorted(CRATES.glob(f"*/must-fail/{label}.edit")) if label != "*"]
         raise Stale(f"there is no crates/{crate}/must-fail/{label}.edit; " + ("it is in " + ", ".join(found) if found else "no crate has it"))
     return crate
 
