@@ -2,7 +2,8 @@
 
 The ```bash block of docs/TABLES.md holds the definitions that the commands use. In a ```console block a line with "$ " is a command, lines with "> " go on
 with it, and the others are what it prints. A comment at a command's end, after two spaces, belongs to the page and not to the command.
-The crates in docs/ARCHITECTURE.md, their levels, what each uses and the theorems are compared with crates.txt and with the sources.
+The crates in docs/ARCHITECTURE.md, their levels and what each uses are compared with crates.txt and with the sources; the theorems in
+docs/TRUSTED.md with the proofs.
 
 Usage: doc_commands.py [path of probe [path of mktree]]. Exits with status 1 at the first difference, or if less was compared than LEAST has.
 """
@@ -131,13 +132,13 @@ def check_crates():
 
 
 def check_theorems():
-    """Each theorem that the page names stands in the file that it names."""
-    page = (ROOT / "docs" / "ARCHITECTURE.md").read_text(encoding="utf-8")
+    """Each theorem that docs/TRUSTED.md names stands in the file that it names."""
+    page = (ROOT / "docs" / "TRUSTED.md").read_text(encoding="utf-8")
     named = [(path, name) for path, names in re.findall(r"`(\w+/proofs/\w+\.antt)`: ([^|]*) \|", page) for name in re.findall(r"`([\w-]+)`", names)]
     for path, name in named:
         text = (ROOT / "crates" / path).read_text(encoding="utf-8")
         if not re.search(rf"^ *pub (record )?{name}\b", text, re.MULTILINE):
-            sys.exit(f"docs/ARCHITECTURE.md: {path} has no {name}")
+            sys.exit(f"docs/TRUSTED.md: {path} has no {name}")
     return len(named)
 
 
