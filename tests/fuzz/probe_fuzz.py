@@ -135,9 +135,12 @@ def some_word(rng):
 
 def altered(rng, data):
     at = 4 * rng.randrange(len(data) // 4) if len(data) >= 4 else 0
-    how = rng.randrange(7)
+    how = rng.randrange(8)
     if how == 0 and data:
         return data[:at] + bytes([data[at] ^ 1 << rng.randrange(8)]) + data[at + 1:]
+    if how == 7 and len(data) >= 4:
+        # one of the two highest bits of a word, which a length in 30 bits would not have
+        return data[:at + 3] + bytes([data[at + 3] ^ rng.choice([0x40, 0x80])]) + data[at + 4:]
     if how == 1:
         return data[:at] + probe.pack([some_word(rng)]) + data[at + 4:]
     if how == 2:
@@ -164,10 +167,18 @@ def near_the_limit(rng):
     return request * (probe.MOST_BYTES // len(request) - 2) + altered(rng, request * 2)
 
 
+def over_the_limit(rng):
+    """Whole requests, up to four too many for an input."""
+    request = probe.pack(probe.request_of(("read", [])))
+    return request * (probe.MOST_BYTES // len(request) + rng.randint(1, 4))
+
+
 def streams(rng, count):
     for number in range(count):
         if number % 400 == 200:
             yield "near the limit", near_the_limit(rng)
+        elif number % 400 == 300:
+            yield "over the limit", over_the_limit(rng)
         else:
             make = rng.choice([random_bytes, small_words, altered_requests, altered_requests, altered_requests])
             yield make.__name__, make(rng)

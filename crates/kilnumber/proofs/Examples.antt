@@ -8,7 +8,7 @@ use Rattle.words.specs.Bytes.{wordOf, wordsOf}
 use Rattle.flat.specs.Nodes.{headerRest, headerOf, testNode, namesNode, nothingNode, nodeOf}
 use Rattle.tree.specs.Walk.{path, enters, walkOf}
 use Rattle.walker.specs.Walked.{walkBytes}
-use Rattle.table.specs.Outcome.{refused}
+use Rattle.words.specs.Outcome.{faulty, refused}
 use Rattle.kilnumber.specs.Packed.{packed, packedCheck}
 
 -- what the call answers, with every definition open
@@ -46,5 +46,5 @@ damaged-is = refl
 no-is : packedCheck (refused 14 0 0) ≡ 0xe00000000
 no-is = refl
 
-fault-is : packedCheck (refused 2 4 0) ≡ 0x200000004
+fault-is : packedCheck (faulty 2 4) ≡ 0x200000004
 fault-is = refl

@@ -29,6 +29,7 @@ packedItems (refused number place w) = number * 2 ^ 32 + place
 -- a check's, laid out as a listing's: 0 for yes
 abbrev pub packedCheck : Outcome Unit → ℕ
 packedCheck (result u) = 0
+packedCheck (faulty number place) = number * 2 ^ 32 + place
 packedCheck (refused number place w) = number * 2 ^ 32 + place
 
 -- listing for C answers what the definition says, and the whole buffer is as the definition says
