@@ -9,7 +9,8 @@ use Prim.Native.Nat.{ℕ, _-_, _%_, _^_, _≤_, _<_}
 use Rattle.table.specs.Outcome.{result, refused}
 use Rattle.table.specs.Table.{Entry, entryNumber, tableOf}
 use Rattle.table.specs.Check.{fine, tableCheck, readTable}
-use Rattle.selection.specs.Selection.{names, select}
+use Rattle.choice.specs.Rule.{names}
+use Rattle.selection.specs.Selection.{select}
 use Rattle.selection.specs.Lookup.{lookOf}
 use Rattle.selection.proofs.Formula.{Selects, Claimed, Unclaimed}
 use Rattle.operands.specs.Calls.{entry-values, decodeOf, encodeOf}
