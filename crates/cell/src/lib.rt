@@ -28,7 +28,8 @@ pub fn settle(table: &[u32], places: &[u32; 256], count: usize, fixed: u32, bits
     ensures { λ r. ⌜ saidVerdict r ≡ settledAt (entryPlaced (now (table .entry)) (now (places .entry))) (min count 256) (cell fixed bits) ⌝ }
 {
     let n = words::lesser(count, 256);
-    let s = standing::statuses(table, places, n, fixed, bits);
+    let mut s = [choice::DEAD; 256];
+    standing::statuses(table, places, n, fixed, bits, &mut s);
     choice::judge(table, places, &s, n)
 }
 
@@ -44,7 +45,8 @@ pub fn decide(
     ensures { λ r. ⌜ saidDecision r ≡ stepAt (entryPlaced (now (table .entry)) (now (places .entry))) (min count 256) (min width 32) (cell fixed bits) ⌝ }
 {
     let n = words::lesser(count, 256);
-    let s = standing::statuses(table, places, n, fixed, bits);
+    let mut s = [choice::DEAD; 256];
+    standing::statuses(table, places, n, fixed, bits, &mut s);
     let verdict = choice::judge(table, places, &s, n);
     match verdict {
         Verdict::Names(i) => Decision::Names(i as u8),

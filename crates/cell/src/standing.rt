@@ -1,6 +1,7 @@
 // What patterns, conditions and entries are in a cell.
 ghost use mathlib.Core.Path.{_≡_};
 ghost use Prim.Native.Nat.{_+_, _*_, _≤_, _<_, _^_};
+ghost use lib.ListN.{length};
 ghost use Rattle.words.specs.Tests.{anyOf, allOf};
 ghost use Rattle.table.specs.Table.{patternAt, unmatchingAt, conditionAt, conditionsAt, entryAt, unmatchingOf, fieldsOf};
 ghost use Rattle.cell.specs.Cell.{implies, clashes, holds as holdsIn, fails as failsIn};
@@ -168,22 +169,21 @@ fn status_at(table: &[u32], p: u32, fixed: u32, bits: u32) -> u8
     choice::OPEN
 }
 
-// What each of the entries at these places is in the cell.
+// Writes what each of the entries at these places is in the cell.
 pub fn statuses(
     table: &[u32],
     places: &[u32; 256],
     count: usize,
     fixed: u32,
     bits: u32,
-) -> [u8; 256]
-    requires { ⌜ count ≤ 256 ⌝ }
-    ensures { λ r. ⌜ Stated (λ j. statusOf (cell fixed bits) (entryPlaced (now (table .entry)) (now (places .entry)) j)) count r ⌝ }
+    s: &mut [u8; 256],
+)
+    requires { ⌜ (count ≤ 256) × (length (now s) ≡ 256) ⌝ }
+    ensures { λ r. ⌜ Stated (λ j. statusOf (cell fixed bits) (entryPlaced (now (table .entry)) (now (places .entry)) j)) count (now (s .exit)) ⌝ }
 {
-    let mut s = [choice::DEAD; 256];
     let mut j: usize = 0;
     while j < count {
         s[j] = status_at(table, places[j], fixed, bits);
         j += 1;
     }
-    s
 }

@@ -13,13 +13,13 @@ use Rattle.cell.proofs.decide.Statement.{statement}
 use Rattle.cell.proofs.decide.Tie as tie
 
 -- a named entry, of the n that were judged
-named : (c : tie.After-known-told) → let a = c .before .before .before .before .before .before .before .before .args in
-    let n = c .before .before .before .before .before .before .lesser .result in
+named : (c : tie.After-known-told) → let a = c .before .before .before .before .before .before .before .before .before .args in
+    let n = c .before .before .before .before .before .before .before .lesser .result in
     let i = c .before .verdict .given .0 .0 in
     (end (names i) ≡ stepAt (entryPlaced (now (a .table)) (now (a .places))) n (min (a .width) 32) (cell (a .fixed) (a .bits))) × (i < n)
 named c =
     let j = c .before .before .before in
-    decide-names _ _ _ _ (j .before .before .statuses .ensures) (omega (arith, j .before .before .before .lesser .ensures)) (j .judge .result) (j .judge .ensures) _ _ (c .before .verdict .given .1)
+    decide-names _ _ _ _ (j .before .before .statuses .ensures) (omega (arith, j .before .before .before .before .lesser .ensures)) (j .judge .result) (j .judge .ensures) _ _ (c .before .verdict .given .1)
 
 lesser-requires : tie.Need-lesser-requires
 lesser-requires c κs = search needs
@@ -33,8 +33,8 @@ judge-requires c κs = search needs
 enum-known-verdict : tie.Need-enum-known-verdict
 enum-known-verdict c = search needs
 
-cast-t16 : tie.Need-cast-t16
-cast-t16 c = omega (arith, named c .1, c .before .before .before .before .before .before .lesser .ensures)
+cast-t17 : tie.Need-cast-t17
+cast-t17 c = omega (arith, named c .1, c .before .before .before .before .before .before .before .lesser .ensures)
 
 enum-told : tie.Need-enum-told
 enum-told c = search needs
@@ -48,8 +48,8 @@ any-open-requires c κs = search needs
 returns : tie.Need-returns
 returns c =
     let j = c .before .before .before .before .before in
-    rw (← j .before .before .before .lesser .ensures)
-    (decide-conflict _ _ _ _ (j .before .before .statuses .ensures) (omega (arith, j .before .before .before .lesser .ensures)) (j .judge .result) (j .judge .ensures) _ (c .before .before .before .enum-told2 .given .1) (sym (c .before .any-open .ensures) ∙ not-true _ (c .if1 .taken)))
+    rw (← j .before .before .before .before .lesser .ensures)
+    (decide-conflict _ _ _ _ (j .before .before .statuses .ensures) (omega (arith, j .before .before .before .before .lesser .ensures)) (j .judge .result) (j .judge .ensures) _ (c .before .before .before .enum-told2 .given .1) (sym (c .before .any-open .ensures) ∙ not-true _ (c .if1 .taken)))
 
 lesser-requires-2 : tie.Need-lesser-requires-2
 lesser-requires-2 c κs = search needs
@@ -60,23 +60,23 @@ cast-top c = search needs
 bit-to-test-requires : tie.Need-bit-to-test-requires
 bit-to-test-requires c κs = search needs
 
-cast-t23 : tie.Need-cast-t23
-cast-t23 c = search needs
+cast-t24 : tie.Need-cast-t24
+cast-t24 c = search needs
 
 returns-2 : tie.Need-returns-2
-returns-2 c = rw (← c .before .before .before .before .before .before .lesser .ensures) (named c .0)
+returns-2 c = rw (← c .before .before .before .before .before .before .before .lesser .ensures) (named c .0)
 
 returns-3 : tie.Need-returns-3
 returns-3 c =
     let j = c .before .before in
-    rw (← j .before .before .before .lesser .ensures)
-    (decide-nothing _ _ _ _ (j .before .before .statuses .ensures) (omega (arith, j .before .before .before .lesser .ensures)) (j .judge .result) (j .judge .ensures) _ (c .enum-told .given .1))
+    rw (← j .before .before .before .before .lesser .ensures)
+    (decide-nothing _ _ _ _ (j .before .before .statuses .ensures) (omega (arith, j .before .before .before .before .lesser .ensures)) (j .judge .result) (j .judge .ensures) _ (c .enum-told .given .1))
 
 returns-4 : tie.Need-returns-4
 returns-4 c =
     let j = c .before .before .before .before .before .before .before .before in
-    rw (← j .before .before .before .lesser .ensures, ← c .before .before .lesser2 .ensures)
-    (decide-test _ _ _ _ (j .before .before .statuses .ensures) (omega (arith, j .before .before .before .lesser .ensures)) (j .judge .result) (j .judge .ensures) _ _ (c .before .before .before .before .before .before .enum-told2 .given .1) (sym (c .before .before .before .before .any-open .ensures) ∙ not-false _ (c .before .before .before .if1 .left)) (c .bit-to-test .ensures .0))
+    rw (← j .before .before .before .before .lesser .ensures, ← c .before .before .lesser2 .ensures)
+    (decide-test _ _ _ _ (j .before .before .statuses .ensures) (omega (arith, j .before .before .before .before .lesser .ensures)) (j .judge .result) (j .judge .ensures) _ _ (c .before .before .before .before .before .before .enum-told2 .given .1) (sym (c .before .before .before .before .any-open .ensures) ∙ not-false _ (c .before .before .before .if1 .left)) (c .bit-to-test .ensures .0))
 
 pub decide-spec : {M : Type 1} → statement M
 decide-spec =
@@ -86,7 +86,7 @@ decide-spec =
     statuses-requires
     judge-requires
     enum-known-verdict
-    cast-t16
+    cast-t17
     enum-told
     enum-told-2
     any-open-requires
@@ -94,7 +94,7 @@ decide-spec =
     lesser-requires-2
     cast-top
     bit-to-test-requires
-    cast-t23
+    cast-t24
     returns-2
     returns-3
     returns-4)

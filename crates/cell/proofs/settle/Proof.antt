@@ -13,7 +13,7 @@ judge-requires : tie.Need-judge-requires
 judge-requires c κs = search needs
 
 returns : tie.Need-returns
-returns c = rw (← c .before .before .before .lesser .ensures) (settled _ _ _ _ (c .before .before .statuses .ensures) (search needs) (c .judge .result) (c .judge .ensures))
+returns c = rw (← c .before .before .before .before .lesser .ensures) (settled _ _ _ _ (c .before .before .statuses .ensures) (search needs) (c .judge .result) (c .judge .ensures))
 
 pub settle-spec : {M : Type 1} → statement M
 settle-spec = tie.close (tie.spec lesser-requires statuses-requires judge-requires returns)

@@ -18,7 +18,7 @@ abbrev μ-loop : tie.MeasureT-loop
 μ-loop table places count fixed bits s₀ j₀ s j = count - j
 
 loop-holds : tie.Need-loop-holds Inv-loop μ-loop
-loop-holds c = (search needs, search needs, below-none _)
+loop-holds c = (search needs, c .before .pre .1, below-none _)
 
 mul-status-at : tie.Need-mul-status-at Inv-loop μ-loop
 mul-status-at c = search needs
@@ -29,8 +29,8 @@ element-copy-out-status-at c = search needs
 status-at-requires : tie.Need-status-at-requires Inv-loop μ-loop
 status-at-requires c κs = search needs
 
-array-write-s : tie.Need-array-write-s Inv-loop μ-loop
-array-write-s c = search needs
+element-write-s : tie.Need-element-write-s Inv-loop μ-loop
+element-write-s c = search needs
 
 add-j : tie.Need-add-j Inv-loop μ-loop
 add-j c = search needs
@@ -56,7 +56,7 @@ statuses-spec =
     mul-status-at
     element-copy-out-status-at
     status-at-requires
-    array-write-s
+    element-write-s
     add-j
     loop-less
     loop-again
