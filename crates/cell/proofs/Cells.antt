@@ -14,9 +14,10 @@ use Rattle.words.specs.Tests.{_and_, _or_, allOf, anyOf, exists, best}
 use Rattle.words.specs.Words.{bit, includes}
 use Rattle.table.specs.Lawful.{goodPattern, goodCondition, goodEntry, goodTable}
 use Rattle.table.specs.Table.{Pattern, Condition, Entry, entryNumber}
-use Rattle.selection.specs.Selection.{Choice, names, nothing, ambiguous, matches, satisfied, claims, judge}
+use Rattle.choice.specs.Rule.{Choice, names, nothing, ambiguous, matches, judge}
+use Rattle.selection.specs.Selection.{satisfied, claims}
 use Rattle.cell.specs.Cell.{Cell, zeroSide, oneSide, implies, clashes, holds, fails, openCondition, dead, live, sure, openEntry}
-use Rattle.cell.specs.Step.{end, split, stepOf, free, votes, inCondition, inOpen, wanted, tested, step}
+use Rattle.cell.specs.Step.{end, split, stepOf, free, votesAt, votes, inCondition, inOpen, wantedAt, wanted, testedAt, tested, settledAt, stepAt, step}
 use Rattle.words.proofs.Bits.{and-assoc, and-or, and-pow, missing, bit-or, bit-pow, bit-pow-other}
 use Rattle.words.proofs.Logic.{cases, clash, isFalse, and-l, and-r, and-i, and-e, or-l, or-r, or-il, or-ir, or-e, not-t, not-f, not-it, not-if, anyOf-map, allOf-none, exists-at, exists-make, howMany-pos, best-max, best-lt, howMany-less}
 
@@ -164,25 +165,25 @@ module _ (es : List Entry) (width : ℕ) (c : Cell) (g : goodTable width es ≡ 
   heaviest v f i h k = (best-lt v width (omega arith), f (best v width) k)
 
   votes-unfixed : (i : ℕ) → 0 < votes es c i → bit (c .fixed) i ≡ false
-  unfolding votes
+  unfolding votesAt
   votes-unfixed i h = weight _ _ h
 
   wanted-unfixed : (i : ℕ) → 0 < wanted es c i → bit (c .fixed) i ≡ false
-  unfolding wanted
+  unfolding wantedAt
   wanted-unfixed i h = weight _ _ h
 
   module _ (j : ℕ) (l : j < length es) (o : openEntry c (entryNumber es j) ≡ true) where
     votes-pos : (i : ℕ) → bit (entryNumber es j .opcode .mask) i ≡ true → bit (c .fixed) i ≡ false → 0 < votes es c i
-    unfolding votes
+    unfolding votesAt
     votes-pos i b f = rw f (howMany-pos (λ k. openEntry c (entryNumber es k) and bit (entryNumber es k .opcode .mask) i) (length es) j l (and-i o b))
 
     wanted-pos : (i : ℕ) → inOpen c i (entryNumber es j) ≡ true → bit (c .fixed) i ≡ false → 0 < wanted es c i
-    unfolding wanted
+    unfolding wantedAt
     wanted-pos i b f = rw (f, exists-make (λ k. openEntry c (entryNumber es k) and inOpen c i (entryNumber es k)) (length es) j l (and-i o b)) (le-refl 1)
 
     chosen : Unfixed width c (λ i. bit (entryNumber es j .opcode .mask) i) ⊎ Unfixed width c (λ i. inOpen c i (entryNumber es j))
         → (tested es width c < width) × (bit (c .fixed) (tested es width c) ≡ false)
-    unfolding tested Unfixed
+    unfolding testedAt Unfixed
     chosen (inl u) =
         let h : 0 < votes es c (best (votes es c) width) = le-trans (votes-pos (u .0) (u .2) (u .3)) (best-max (votes es c) width (u .0) (u .1)) in
         rw (ne-eqb (votes es c (best (votes es c) width)) 0 (λ z. omega arith)) (heaviest (votes es c) votes-unfixed (u .0) (u .1) h)
@@ -204,17 +205,22 @@ step-split nothing o k i h = (cc, cc)
 step-split ambiguous true k i h = (refl, cc)
 step-split ambiguous false k i h = (cc, cc)
 
+ending : (b : Choice) (o : Bool) (k : ℕ) (a : Choice) → stepOf b o k ≡ end a → (b ≡ a) × (b ≡ ambiguous → o ≡ false)
+ending (names e) o k a h = (cc, λ z. cc)
+ending nothing o k a h = (cc, λ z. cc)
+ending ambiguous true k a h = (cc, λ z. cc)
+ending ambiguous false k a h = (cc, λ z. refl)
+
 -- a step that ends: with what is settled, and as ambiguous only where no entry is open
-pub step-end : (b : Choice) (o : Bool) (k : ℕ) (a : Choice) → stepOf b o k ≡ end a → (b ≡ a) × (b ≡ ambiguous → o ≡ false)
-step-end (names e) o k a h = (cc, λ z. cc)
-step-end nothing o k a h = (cc, λ z. cc)
-step-end ambiguous true k a h = (cc, λ z. cc)
-step-end ambiguous false k a h = (cc, λ z. refl)
+pub step-end : (es : List Entry) (width : ℕ) (c : Cell) (a : Choice) → step es width c ≡ end a
+    → (judge es (sure c) (live c) ≡ a) × (judge es (sure c) (live c) ≡ ambiguous → exists (λ j. openEntry c (entryNumber es j)) (length es) ≡ false)
+unfolding step stepAt settledAt judge
+step-end es width c a e = ending (judge es (sure c) (live c)) (exists (λ j. openEntry c (entryNumber es j)) (length es)) (tested es width c) a e
 
 -- the bit that a step tests is below the width and unfixed
 pub split-right : (es : List Entry) (width : ℕ) → goodTable width es ≡ true → (c : Cell) (i : ℕ) → step es width c ≡ split i
     → (i < width) × (bit (c .fixed) i ≡ false)
-unfolding step
+unfolding step stepAt settledAt judge
 split-right es width good c i e =
     let r = step-split (judge es (sure c) (live c)) (exists (λ j. openEntry c (entryNumber es j)) (length es)) (tested es width c) i e in
     subst (λ (k : ℕ). (k < width) × (bit (c .fixed) k ≡ false)) (r .1) (tested-unfixed es width c good (r .0))

@@ -8,7 +8,7 @@ use Rattle.words.specs.Words.{word}
 use Rattle.table.specs.Table.{patternAt, unmatchingAt, unmatchingOf, conditionAt, conditionsAt, fieldsOf, conditionsOf, Condition, entryAt}
 use Rattle.cell.specs.Cell.{Cell, implies, clashes, holds, fails, dead, live, sure}
 use Rattle.cell.specs.Decide.{statusOf}
-use Rattle.cell.specs.declared.Status.the-variants.{Dead, Sure, Open}
+use Rattle.choice.specs.Status.{codeOf}
 
 -- ---- a condition
 module _ (ws : List ℕ) (c : Cell) (p : ℕ) where
@@ -32,7 +32,7 @@ module _ (ws : List ℕ) (c : Cell) (p : ℕ) where
 
 -- ---- an entry; w is its head word, n and m the numbers in it, as the code has them, and its conditions stand from `first` on
 module _ (ws : List ℕ) (c : Cell) (p : ℕ) where
-  pub clash-dead : clashes c (patternAt ws (p + 1)) ≡ true → statusOf c (entryAt ws p) ≡ Dead
+  pub clash-dead : clashes c (patternAt ws (p + 1)) ≡ true → codeOf (statusOf c (entryAt ws p)) ≡ 0
   unfolding statusOf dead _or_
   clash-dead e = rw e
 
@@ -44,19 +44,19 @@ module _ (ws : List ℕ) (c : Cell) (p : ℕ) where
     pub entry-any : (f : Condition → Bool) (r : Bool) → r ≡ anyOf f (conditionsAt ws n first) → r ≡ anyOf f (entryAt ws p .conditions)
     entry-any f r e = rw (← conditions-are) e
 
-    pub holds-dead : anyOf (holds c) (conditionsAt ws n first) ≡ true → clashes c (patternAt ws (p + 1)) ≡ false → statusOf c (entryAt ws p) ≡ Dead
+    pub holds-dead : anyOf (holds c) (conditionsAt ws n first) ≡ true → clashes c (patternAt ws (p + 1)) ≡ false → codeOf (statusOf c (entryAt ws p)) ≡ 0
     unfolding statusOf dead _or_
     holds-dead e d = rw (d, ← conditions-are, e)
 
     module _ (d : clashes c (patternAt ws (p + 1)) ≡ false) (e : anyOf (holds c) (conditionsAt ws n first) ≡ false) where
-      pub not-implied-open : implies c (patternAt ws (p + 1)) ≡ false → statusOf c (entryAt ws p) ≡ Open
+      pub not-implied-open : implies c (patternAt ws (p + 1)) ≡ false → codeOf (statusOf c (entryAt ws p)) ≡ 2
       unfolding statusOf sure live dead _or_ _and_
       not-implied-open i = rw (d, ← conditions-are, e, i)
 
-      pub all-fail-sure : implies c (patternAt ws (p + 1)) ≡ true → allOf (fails c) (conditionsAt ws n first) ≡ true → statusOf c (entryAt ws p) ≡ Sure
+      pub all-fail-sure : implies c (patternAt ws (p + 1)) ≡ true → allOf (fails c) (conditionsAt ws n first) ≡ true → codeOf (statusOf c (entryAt ws p)) ≡ 1
       unfolding statusOf sure live dead _or_ _and_
       all-fail-sure i a = rw (d, ← conditions-are, e, i, a)
 
-      pub not-fail-open : implies c (patternAt ws (p + 1)) ≡ true → allOf (fails c) (conditionsAt ws n first) ≡ false → statusOf c (entryAt ws p) ≡ Open
+      pub not-fail-open : implies c (patternAt ws (p + 1)) ≡ true → allOf (fails c) (conditionsAt ws n first) ≡ false → codeOf (statusOf c (entryAt ws p)) ≡ 2
       unfolding statusOf sure live dead _or_ _and_
       not-fail-open i a = rw (d, ← conditions-are, e, i, a)

@@ -6,7 +6,7 @@ use lib.Dec.{eqb}
 use Rattle.words.specs.Tests.{_and_, _or_, allOf, anyOf}
 use Rattle.words.specs.Words.{includes}
 use Rattle.table.specs.Table.{Pattern, Condition, Entry}
-use Rattle.selection.specs.Selection.{matches}
+use Rattle.choice.specs.Rule.{matches}
 
 -- "A cell fixes some bits": which, as a mask, and their values
 pub record Cell : Type 0 where

@@ -1,30 +1,18 @@
 // The decision in a cell: what each entry is there, what that settles, and if nothing, which bit to test.
+use choice::Verdict;
 ghost use mathlib.Core.Path.{_≡_};
 ghost use Prim.Native.Nat.{min};
-ghost use Rattle.cell.specs.Decide.{cell, settledAt, verdictOf, stepAt, decisionOf};
+ghost use Rattle.choice.specs.Judged.{entryPlaced, saidVerdict};
+ghost use Rattle.cell.specs.Step.{settledAt, stepAt};
+ghost use Rattle.cell.specs.Decide.{cell, saidDecision};
 
-mod judging;
 mod standing;
 mod testing;
-
-// What an entry is in a cell.
-enum Status {
-    Dead,
-    Sure,
-    Open,
-}
-
-// What the entries' statuses settle: steps 1 and 2.
-pub enum Verdict {
-    Names(usize),
-    Nothing,
-    Stuck,
-}
 
 // A bit, and how many want it.
 struct Weighed {
     pub bit: u32,
-    pub weight: usize,
+    pub weight: u32,
 }
 
 // What to do with a cell: a leaf, or a bit to test.
@@ -37,11 +25,12 @@ pub enum Decision {
 
 // What steps 1 and 2 settle of the cell, for the entries at these places.
 pub fn settle(table: &[u32], places: &[u32; 256], count: usize, fixed: u32, bits: u32) -> Verdict
-    ensures { λ r. ⌜ r ≡ verdictOf (settledAt (now (table .entry)) (now (places .entry)) (min count 256) (cell fixed bits)) ⌝ }
+    ensures { λ r. ⌜ saidVerdict r ≡ settledAt (entryPlaced (now (table .entry)) (now (places .entry))) (min count 256) (cell fixed bits) ⌝ }
 {
     let n = words::lesser(count, 256);
-    let s = standing::statuses(table, places, n, fixed, bits);
-    judging::judge(table, places, s, n)
+    let mut s = [choice::DEAD; 256];
+    standing::statuses(table, places, n, fixed, bits, &mut s);
+    choice::judge(table, places, &s, n)
 }
 
 // What to do with the cell, for the entries at these places.
@@ -53,20 +42,21 @@ pub fn decide(
     fixed: u32,
     bits: u32,
 ) -> Decision
-    ensures { λ r. ⌜ r ≡ decisionOf (stepAt (now (table .entry)) (now (places .entry)) (min count 256) (min width 32) (cell fixed bits)) ⌝ }
+    ensures { λ r. ⌜ saidDecision r ≡ stepAt (entryPlaced (now (table .entry)) (now (places .entry))) (min count 256) (min width 32) (cell fixed bits) ⌝ }
 {
     let n = words::lesser(count, 256);
-    let s = standing::statuses(table, places, n, fixed, bits);
-    let verdict = judging::judge(table, places, s, n);
+    let mut s = [choice::DEAD; 256];
+    standing::statuses(table, places, n, fixed, bits, &mut s);
+    let verdict = choice::judge(table, places, &s, n);
     match verdict {
         Verdict::Names(i) => Decision::Names(i as u8),
         Verdict::Nothing => Decision::Nothing,
         Verdict::Stuck => {
-            if !testing::any_open(s, n) {
+            if !testing::any_open(&s, n) {
                 return Decision::Conflict;
             }
             let top = words::lesser(width as usize, 32) as u32;
-            let tested = testing::bit_to_test(table, places, s, n, top, fixed, bits);
+            let tested = testing::bit_to_test(table, places, &s, n, top, fixed, bits);
             Decision::Test(tested as u8)
         }
     }

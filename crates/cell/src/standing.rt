@@ -1,11 +1,13 @@
 // What patterns, conditions and entries are in a cell.
-use crate::Status;
 ghost use mathlib.Core.Path.{_≡_};
 ghost use Prim.Native.Nat.{_+_, _*_, _≤_, _<_, _^_};
+ghost use lib.ListN.{length};
 ghost use Rattle.words.specs.Tests.{anyOf, allOf};
 ghost use Rattle.table.specs.Table.{patternAt, unmatchingAt, conditionAt, conditionsAt, entryAt, unmatchingOf, fieldsOf};
 ghost use Rattle.cell.specs.Cell.{implies, clashes, holds as holdsIn, fails as failsIn};
-ghost use Rattle.cell.specs.Decide.{cell, statusOf, isLive, isSure, isOpen, Stated};
+ghost use Rattle.choice.specs.Status.{codeOf, Stated};
+ghost use Rattle.choice.specs.Judged.{entryPlaced};
+ghost use Rattle.cell.specs.Decide.{cell, statusOf};
 
 // Bits 3 to 0 of a head word: how many conditions, or unmatching patterns, follow.
 pub fn followers(head: u32) -> usize
@@ -145,77 +147,43 @@ fn all_fail(table: &[u32], n: usize, p: usize, fixed: u32, bits: u32) -> bool
 }
 
 // What the entry at p is in the cell.
-fn status_at(table: &[u32], p: u32, fixed: u32, bits: u32) -> Status
-    ensures { λ r. ⌜ r ≡ statusOf (cell fixed bits) (entryAt (now (table .entry)) p) ⌝ }
+fn status_at(table: &[u32], p: u32, fixed: u32, bits: u32) -> u8
+    ensures { λ r. ⌜ r ≡ codeOf (statusOf (cell fixed bits) (entryAt (now (table .entry)) p)) ⌝ }
 {
     let at = p as usize;
     if is_clash(table, at + 1, fixed, bits) {
-        return Status::Dead;
+        return choice::DEAD;
     }
     let head = words::word_at(table, at);
     let n = followers(head);
     let first = at + 3 + fields(head);
     if any_holds(table, n, first, fixed, bits) {
-        return Status::Dead;
+        return choice::DEAD;
     }
     if !is_implied(table, at + 1, fixed, bits) {
-        return Status::Open;
+        return choice::OPEN;
     }
     if all_fail(table, n, first, fixed, bits) {
-        return Status::Sure;
+        return choice::SURE;
     }
-    Status::Open
+    choice::OPEN
 }
 
-// What each of the entries at these places is in the cell.
+// Writes what each of the entries at these places is in the cell.
 pub fn statuses(
     table: &[u32],
     places: &[u32; 256],
     count: usize,
     fixed: u32,
     bits: u32,
-) -> [Status; 256]
-    requires { ⌜ count ≤ 256 ⌝ }
-    ensures { λ r. ⌜ Stated (now (table .entry)) (now (places .entry)) count (cell fixed bits) r ⌝ }
+    s: &mut [u8; 256],
+)
+    requires { ⌜ (count ≤ 256) × (length (now s) ≡ 256) ⌝ }
+    ensures { λ r. ⌜ Stated (λ j. statusOf (cell fixed bits) (entryPlaced (now (table .entry)) (now (places .entry)) j)) count (now (s .exit)) ⌝ }
 {
-    let mut s = [Status::Dead; 256];
     let mut j: usize = 0;
     while j < count {
         s[j] = status_at(table, places[j], fixed, bits);
         j += 1;
-    }
-    s
-}
-
-// Whether the entry is live: sure or open.
-pub fn is_live(s: Status) -> bool
-    ensures { λ r. ⌜ r ≡ isLive s ⌝ }
-{
-    match s {
-        Status::Dead => false,
-        Status::Sure => true,
-        Status::Open => true,
-    }
-}
-
-// Whether the entry is sure.
-pub fn is_sure(s: Status) -> bool
-    ensures { λ r. ⌜ r ≡ isSure s ⌝ }
-{
-    match s {
-        Status::Dead => false,
-        Status::Sure => true,
-        Status::Open => false,
-    }
-}
-
-// Whether the entry is open.
-pub fn is_open(s: Status) -> bool
-    ensures { λ r. ⌜ r ≡ isOpen s ⌝ }
-{
-    match s {
-        Status::Dead => false,
-        Status::Sure => false,
-        Status::Open => true,
     }
 }

@@ -1,25 +1,27 @@
 // The bit to test in a cell that is not settled: step 4.
-use crate::Status;
 use crate::Weighed;
 use crate::standing;
 ghost use mathlib.Core.Path.{_≡_};
+ghost use mathlib.Core.Bool.{not};
 ghost use Prim.Native.Nat.{ℕ, _+_, _*_, _≤_, _<_, _^_};
-ghost use lib.ListN.{getD};
-ghost use Rattle.words.specs.Tests.{_and_, anyOf};
+ghost use lib.Dec.{eqb};
+ghost use Rattle.words.specs.Tests.{_and_, anyOf, exists, best};
 ghost use Rattle.words.specs.Words.{bit};
 ghost use Rattle.table.specs.Table.{conditionAt, conditionsAt, entryAt};
 ghost use Rattle.cell.specs.Cell.{openCondition};
-ghost use Rattle.cell.specs.Step.{inCondition};
-ghost use Rattle.cell.specs.Decide.{cell, listed, someOpen, openMask, Masked, votesFor, weightOf, Heaviest, inEntry, inSome, testedAt};
+ghost use Rattle.choice.specs.Status.{Open, codeOf, openIn};
+ghost use Rattle.choice.specs.Judged.{entryPlaced};
+ghost use Rattle.cell.specs.Step.{inCondition, inOpen, votesAt, testedAt};
+ghost use Rattle.cell.specs.Decide.{cell, votesFor, weightOf, Heaviest, inSome, unfixedIn};
 
 // Whether one of the entries is open.
-pub fn any_open(s: [Status; 256], count: usize) -> bool
+pub fn any_open(s: &[u8; 256], count: usize) -> bool
     requires { ⌜ count ≤ 256 ⌝ }
-    ensures { λ r. ⌜ r ≡ someOpen (listed s) count ⌝ }
+    ensures { λ r. ⌜ r ≡ exists (openIn (now (s .entry))) count ⌝ }
 {
     let mut j: usize = 0;
     while j < count {
-        if standing::is_open(s[j]) {
+        if s[j] == choice::OPEN {
             return true;
         }
         j += 1;
@@ -27,46 +29,22 @@ pub fn any_open(s: [Status; 256], count: usize) -> bool
     false
 }
 
-// The opcode mask of an open entry at p; no bit of any other.
-fn open_mask(table: &[u32], p: u32, s: Status) -> u32
-    ensures { λ r. ⌜ r ≡ openMask (now (table .entry)) p s ⌝ }
-{
-    if !standing::is_open(s) {
-        return 0;
-    }
-    words::word_at(table, p as usize + 1)
-}
-
-// The opcode masks of the open entries.
-fn open_masks(table: &[u32], places: &[u32; 256], s: [Status; 256], count: usize) -> [u32; 256]
-    requires { ⌜ count ≤ 256 ⌝ }
-    ensures { λ r. ⌜ Masked (now (table .entry)) (now (places .entry)) (listed s) count r ⌝ }
-{
-    let mut masks = [0u32; 256];
-    let mut j: usize = 0;
-    while j < count {
-        masks[j] = open_mask(table, places[j], s[j]);
-        j += 1;
-    }
-    masks
-}
-
 // How many of the masks have bit i.
-fn votes(masks: &[u32; 256], count: usize, i: u32) -> usize
+fn votes(masks: &[u32; 256], count: usize, i: u32) -> u32
     requires { ⌜ (count ≤ 256) × (i < 32) ⌝ }
     ensures { λ r. ⌜ r ≡ votesFor (now (masks .entry)) count i ⌝ }
 {
-    let mut n: usize = 0;
+    let mut n: u32 = 0;
     let mut j: usize = 0;
     while j < count {
-        n += ((masks[j] >> i) & 1) as usize;
+        n += (masks[j] >> i) & 1;
         j += 1;
     }
     n
 }
 
 // The same if bit i is unfixed; else 0.
-fn weigh(masks: &[u32; 256], count: usize, fixed: u32, i: u32) -> usize
+fn weigh(masks: &[u32; 256], count: usize, fixed: u32, i: u32) -> u32
     requires { ⌜ (count ≤ 256) × (i < 32) ⌝ }
     ensures { λ r. ⌜ r ≡ weightOf (now (masks .entry)) count fixed i ⌝ }
 {
@@ -79,8 +57,11 @@ fn weigh(masks: &[u32; 256], count: usize, fixed: u32, i: u32) -> usize
 // The unfixed bit that most masks have, the highest on a tie.
 fn heaviest(masks: &[u32; 256], count: usize, width: u32, fixed: u32) -> Weighed
     requires { ⌜ (count ≤ 256) × (width ≤ 32) ⌝ }
-    ensures { λ r. ⌜ Heaviest (now (masks .entry)) count width fixed r ⌝ }
+    ensures { λ r. ⌜ Heaviest (weightOf (now (masks .entry)) count fixed) width r ⌝ }
 {
+    if count < 1 {
+        return Weighed { bit: 0, weight: 0 };
+    }
     let mut bit: u32 = 0;
     let mut weight = weigh(masks, count, fixed, 0);
     let mut i: u32 = 1;
@@ -93,6 +74,41 @@ fn heaviest(masks: &[u32; 256], count: usize, width: u32, fixed: u32) -> Weighed
         i += 1;
     }
     Weighed { bit, weight }
+}
+
+// The opcode mask of the entry at p.
+fn opcode_mask(table: &[u32], p: u32) -> u32
+    ensures { λ r. ⌜ r ≡ entryAt (now (table .entry)) p .opcode .mask ⌝ }
+{
+    words::word_at(table, p as usize + 1)
+}
+
+// The unfixed bit in the opcode masks of the most open entries, and how many they are. Masks without an unfixed bit are left out.
+fn most_wanted(
+    table: &[u32],
+    places: &[u32; 256],
+    s: &[u8; 256],
+    count: usize,
+    width: u32,
+    fixed: u32,
+) -> Weighed
+    requires { ⌜ (count ≤ 256) × (width ≤ 32) ⌝ }
+    ensures { λ r. ⌜ Heaviest (votesAt (entryPlaced (now (table .entry)) (now (places .entry))) (openIn (now (s .entry))) count fixed) width r ⌝ }
+{
+    let mut masks = [0u32; 256];
+    let mut n: usize = 0;
+    let mut j: usize = 0;
+    while j < count {
+        if s[j] == choice::OPEN {
+            let mask = opcode_mask(table, places[j]);
+            if fixed & mask != mask {
+                masks[n] = mask;
+                n += 1;
+            }
+        }
+        j += 1;
+    }
+    heaviest(&masks, n, width, fixed)
 }
 
 // The bits in the patterns of the condition at p.
@@ -142,10 +158,10 @@ fn open_bits(table: &[u32], n: usize, p: usize, fixed: u32, bits: u32) -> u32
 }
 
 // The same for the conditions of an open entry at p; no bit for any other.
-fn entry_bits(table: &[u32], p: u32, s: Status, fixed: u32, bits: u32) -> u32
-    ensures { λ r. ⌜ ((i : ℕ) → bit r i ≡ inEntry (cell fixed bits) i s (entryAt (now (table .entry)) p)) ⌝ }
+fn entry_bits(table: &[u32], p: u32, s: u8, fixed: u32, bits: u32) -> u32
+    ensures { λ r. ⌜ ((i : ℕ) → bit r i ≡ eqb s (codeOf Open) and inOpen (cell fixed bits) i (entryAt (now (table .entry)) p)) ⌝ }
 {
-    if !standing::is_open(s) {
+    if s != choice::OPEN {
         return 0;
     }
     let at = p as usize;
@@ -163,13 +179,13 @@ fn entry_bits(table: &[u32], p: u32, s: Status, fixed: u32, bits: u32) -> u32
 fn all_bits(
     table: &[u32],
     places: &[u32; 256],
-    s: [Status; 256],
+    s: &[u8; 256],
     count: usize,
     fixed: u32,
     bits: u32,
 ) -> u32
     requires { ⌜ count ≤ 256 ⌝ }
-    ensures { λ r. ⌜ ((i : ℕ) → bit r i ≡ inSome (now (table .entry)) (now (places .entry)) (listed s) count (cell fixed bits) i) ⌝ }
+    ensures { λ r. ⌜ ((i : ℕ) → bit r i ≡ inSome (entryPlaced (now (table .entry)) (now (places .entry))) (openIn (now (s .entry))) count (cell fixed bits) i) ⌝ }
 {
     let mut found: u32 = 0;
     let mut j: usize = 0;
@@ -180,35 +196,49 @@ fn all_bits(
     found
 }
 
-// One mask.
-fn single(mask: u32) -> [u32; 256]
-    ensures { λ r. ⌜ getD r 0 0 ≡ mask ⌝ }
+// Whether bit i is unfixed and in the mask.
+fn is_unfixed(mask: u32, fixed: u32, i: u32) -> bool
+    requires { ⌜ i < 32 ⌝ }
+    ensures { λ r. ⌜ r ≡ not (bit fixed i) and bit mask i ⌝ }
 {
-    let mut masks = [0u32; 256];
-    masks[0] = mask;
-    masks
+    if (fixed >> i) & 1 == 1 {
+        return false;
+    }
+    (mask >> i) & 1 == 1
+}
+
+// The highest unfixed bit of a mask below the width; the last bit below the width if there is none.
+fn highest(mask: u32, width: u32, fixed: u32) -> u32
+    requires { ⌜ width ≤ 32 ⌝ }
+    ensures { λ r. ⌜ r ≡ best (unfixedIn mask fixed) width ⌝ }
+{
+    let mut i = width;
+    while 0 < i {
+        i -= 1;
+        if is_unfixed(mask, fixed, i) {
+            return i;
+        }
+    }
+    if 0 < width { width - 1 } else { 0 }
 }
 
 // The bit to test in the cell.
 pub fn bit_to_test(
     table: &[u32],
     places: &[u32; 256],
-    s: [Status; 256],
+    s: &[u8; 256],
     count: usize,
     width: u32,
     fixed: u32,
     bits: u32,
 ) -> u32
     requires { ⌜ (count ≤ 256) × (width ≤ 32) ⌝ }
-    ensures { λ r. ⌜ (r ≡ testedAt (now (table .entry)) (now (places .entry)) (listed s) count width (cell fixed bits)) × (r < 32) ⌝ }
+    ensures { λ r. ⌜ (r ≡ testedAt (entryPlaced (now (table .entry)) (now (places .entry))) (openIn (now (s .entry))) count width (cell fixed bits)) × (r < 32) ⌝ }
 {
-    let masks = open_masks(table, places, s, count);
-    let most = heaviest(&masks, count, width, fixed);
+    let most = most_wanted(table, places, s, count, width, fixed);
     let weight = most.weight;
     if 0 < weight {
         return most.bit;
     }
-    let one = single(all_bits(table, places, s, count, fixed, bits));
-    let only = heaviest(&one, 1, width, fixed);
-    only.bit
+    highest(all_bits(table, places, s, count, fixed, bits), width, fixed)
 }

@@ -11,7 +11,8 @@ use Rattle.words.specs.Outcome.{result, refused}
 use Rattle.table.specs.Table.{Entry, sizeOf, countOf, entryNumber, tableOf}
 use Rattle.table.proofs.Laws.{length-entries}
 use Rattle.table.proofs.Views.{ready-at, ready-place, ready-short}
-use Rattle.selection.specs.Selection.{names, select}
+use Rattle.choice.specs.Rule.{names}
+use Rattle.selection.specs.Selection.{select}
 use Rattle.selection.proofs.Formula.{names-exactly, nothing-exactly}
 use Rattle.tree.specs.Walk.{Walk, named, walkOf}
 use Rattle.tree.proofs.Demand.{Right}

@@ -4,7 +4,8 @@ use mathlib.Core.Bool.{cond}
 use mathlib.Core.List.{List, [], _∷_}
 use lib.Dec.{ltb, eqb}
 use Rattle.table.specs.Table.{Entry, entryNumber}
-use Rattle.selection.specs.Selection.{Choice, names, nothing, ambiguous, select}
+use Rattle.choice.specs.Rule.{Choice, names, nothing, ambiguous}
+use Rattle.selection.specs.Selection.{select}
 use Rattle.image.specs.declared.HalfwordAddress.{HalfwordAddress}
 use Rattle.image.specs.declared.Item.{Item}
 use Rattle.image.specs.declared.Picked.{Picked}

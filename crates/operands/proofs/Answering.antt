@@ -16,7 +16,8 @@ use Rattle.table.specs.Table.{Entry, Table, entryNumber, tableOf, entryAt, entr
 use Rattle.table.specs.Check.{Check, fine, fault, tableCheck, entryCheck, reading, readTable}
 use Rattle.table.proofs.Laws.{then-l, then-r, length-entries, first-short}
 use Rattle.table.proofs.Views.{entry-check, entry-at, entry-opcode, entry-few-fields}
-use Rattle.selection.specs.Selection.{Choice, names, nothing, ambiguous, select}
+use Rattle.choice.specs.Rule.{Choice, names, nothing, ambiguous}
+use Rattle.selection.specs.Selection.{select}
 use Rattle.selection.specs.Lookup.{lookedUp, lookOf}
 use Rattle.operands.specs.Fields.{valuesIn}
 use Rattle.operands.specs.Calls.{Decoded, entry-values, none-selected, decodedAs, decodeOf, bufferAfter}

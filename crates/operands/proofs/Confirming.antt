@@ -15,7 +15,8 @@ use Rattle.table.specs.Table.{Entry, Table, Field, entryNumber, tableOf, fields
 use Rattle.table.specs.Check.{fine, tableCheck, fieldsCheck, readTable}
 use Rattle.table.proofs.Laws.{then-l, then-r, length-entries, first-width, field-some, field-below}
 use Rattle.table.proofs.Views.{entry-field-check}
-use Rattle.selection.specs.Selection.{Choice, names, nothing, ambiguous, select}
+use Rattle.choice.specs.Rule.{Choice, names, nothing, ambiguous}
+use Rattle.selection.specs.Selection.{select}
 use Rattle.selection.specs.Lookup.{lookedUp, lookOf}
 use Rattle.operands.specs.Fields.{placed, misfit}
 use Rattle.operands.specs.Calls.{selects, encodedAs, encodedFrom, encodeOf}

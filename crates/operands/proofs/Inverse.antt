@@ -21,10 +21,11 @@ use Rattle.words.specs.Outcome.{result}
 use Rattle.table.specs.Check.{Check, fine, fault, tableCheck, entryCheck, patternCheck, reading, readTable}
 use Rattle.table.proofs.Laws.{then-l, then-r, need-true, head-below, length-entries}
 use Rattle.table.proofs.Views.{entry-check, entry-at}
-use Rattle.selection.proofs.Judging.{choice-names}
+use Rattle.choice.proofs.Judging.{choice-names}
 use Rattle.selection.specs.Lookup.{lookOf}
-use Rattle.selection.specs.Selection.{Choice, names, nothing, ambiguous, select, judge, beats, claims, matches}
-use Rattle.operands.specs.Fields.{valuesIn, placed, misfit}
+use Rattle.choice.specs.Rule.{Choice, names, nothing, ambiguous, choiceOf, judge, beats, matches, judgeAt}
+use Rattle.selection.specs.Selection.{select, claims}
+use Rattle.operands.specs.Fields.{valueIn, valuesIn, placed, misfit}
 use Rattle.operands.specs.Calls.{Decoded, entry-values, decodedAs, decodeOf, selects, encodedAs, encodedFrom, encodeOf}
 use Rattle.operands.proofs.Cover.{Covered, covered, and-run, taken-placed, Made, placed-taken}
 
@@ -68,7 +69,7 @@ values-fit (f ∷ fs) w i = rw (lt-ltb (part w (f .low) (f .width)) (2 ^ (f .wid
 -- ---- the selected entry
 module _ (es : List Entry) (w e : ℕ) (s : select es w ≡ names e) where
   selected-first : (e < length es) × (claims w (entryNumber es e) and beats es (claims w) e ≡ true)
-  unfolding select judge
+  unfolding select judge judgeAt
   selected-first = first-some (λ i. claims w (entryNumber es i) and beats es (claims w) i) (length es) e (choice-names _ _ e s)
 
   pub selected-lt : e < length es

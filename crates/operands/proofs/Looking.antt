@@ -9,7 +9,8 @@ use borrow.Author.Tests.{lt-ltb}
 use Rattle.words.specs.Outcome.{result, refused}
 use Rattle.table.specs.Table.{tableOf}
 use Rattle.table.specs.Check.{fine, tableCheck, readTable}
-use Rattle.selection.specs.Selection.{Choice, names, nothing, ambiguous, select}
+use Rattle.choice.specs.Rule.{Choice, names, nothing, ambiguous}
+use Rattle.selection.specs.Selection.{select}
 use Rattle.selection.specs.Lookup.{lookedUp, lookOf}
 use Rattle.selection.proofs.Formula.{Selects, Contested, Unclaimed, names-exactly, nothing-exactly, ambiguous-exactly}
 

@@ -8,7 +8,8 @@ use lib.ListN.{length, drop}
 use Rattle.words.specs.Tests.{_and_}
 use Rattle.words.specs.Outcome.{Outcome, result, faulty, refused}
 use Rattle.table.specs.Table.{Entry, Table, entryNumber}
-use Rattle.selection.specs.Selection.{Choice, names, nothing, ambiguous, select}
+use Rattle.choice.specs.Rule.{Choice, names, nothing, ambiguous}
+use Rattle.selection.specs.Selection.{select}
 use Rattle.operands.specs.Fields.{valuesIn, placed, misfit}
 
 -- ---- decoding

@@ -8,12 +8,13 @@ use Rattle.words.specs.Outcome.{Outcome, result, refused}
 use Rattle.table.specs.Check.{readTable}
 use Rattle.table.proofs.Examples.{opened}
 use Rattle.table.specs.Worked.{worked, printed}
-use Rattle.selection.specs.Selection.{matches, satisfied, claims, moreSpecific, beats, judge, select}
+use Rattle.choice.specs.Rule.{matches, moreSpecific, judge, judgeAt, beatsAt, givesWay}
+use Rattle.selection.specs.Selection.{satisfied, claims, select}
 use Rattle.selection.specs.Lookup.{lookOf}
 
 -- looking words up in a table, with every definition open
 unfoldable pub looks : List ℕ → List ℕ → List (Outcome (Option ℕ))
-unfolding opened _and_ _or_ allOf anyOf every exists first matches satisfied claims moreSpecific beats judge select lookOf
+unfolding opened _and_ _or_ allOf anyOf every exists first matches satisfied claims moreSpecific beatsAt givesWay judge judgeAt select lookOf
 looks ws words = map (lookOf (readTable ws)) words
 
 -- entry numbers of A to G

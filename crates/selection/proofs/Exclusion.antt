@@ -1,14 +1,15 @@
 -- The exclusion check: searches over unmatching patterns and over conditions. Assumes nothing.
-use mathlib.Core.Path.{_≡_, refl, sym, ap, _∙_}
+use mathlib.Core.Path.{_≡_, refl, ap}
 use mathlib.Core.List.{List, [], _∷_}
 use mathlib.Core.Bool.{Bool, true, false, not}
-use Prim.Native.Nat.{ℕ, zero, suc, _+_, _-_, _≤_, _<_}
+use Prim.Native.Nat.{ℕ, suc, _+_, _-_, _≤_, _<_}
 use native.Mathlib.Omega.{arith}
 use Rattle.words.specs.Tests.{_and_, anyOf}
 use Rattle.words.proofs.Logic.{search-pass, search-found, search-none}
-use Rattle.words.specs.Words.{word, part}
+use Rattle.words.specs.Words.{word}
 use Rattle.table.specs.Table.{unmatchingOf, fieldsOf, conditionsOf, patternAt, unmatchingAt, conditionAt, conditionEnd, conditionsAt, entryAt}
-use Rattle.selection.specs.Selection.{matches, satisfied, claims}
+use Rattle.choice.specs.Rule.{matches}
+use Rattle.selection.specs.Selection.{satisfied, claims}
 
 module _ (ws : List ℕ) (w : ℕ) where
   unmatching-nil : (p : ℕ) → unmatchingAt ws 0 p ≡ []

@@ -4,16 +4,16 @@ use mathlib.Core.Path.{_≡_, sym}
 use mathlib.Core.Logic.{_↔_}
 use mathlib.Core.List.{List}
 use mathlib.Core.Bool.{Bool, true, false}
-use mathlib.Core.Option.{none, some}
 use Prim.Native.Nat.{ℕ, _<_}
 use lib.Dec.{eqb}
 use lib.ListN.{length}
 use borrow.Author.Tests.{eqb-true, eqb-false, ne-eqb}
-use Rattle.words.specs.Tests.{_and_, every, exists, first}
+use Rattle.words.specs.Tests.{_and_, exists, first}
 use Rattle.words.proofs.Logic.{cases, clash, isFalse, and-l, and-r, and-i, or-i, or-il, or-ir, or-e, not-it, not-if, every-at, every-make, exists-at, exists-make, exists-none, exists-no, first-some, first-none, first-only, first-no}
 use Rattle.table.specs.Table.{Entry, entryNumber}
-use Rattle.selection.specs.Selection.{names, nothing, ambiguous, claims, moreSpecific, beats, judge, select}
-use Rattle.selection.proofs.Judging.{not-mutual, choice-names, choice-nothing, choice-ambiguous}
+use Rattle.choice.specs.Rule.{names, nothing, ambiguous, moreSpecific, beats, judge, judgeAt, beatsAt, givesWay}
+use Rattle.selection.specs.Selection.{claims, select}
+use Rattle.choice.proofs.Judging.{not-mutual, choice-names, choice-nothing, choice-ambiguous}
 
 -- entry i claims the word, and is more specific than every other entry that claims it
 pub record Selects (es : List Entry) (w i : ℕ) : Type 0 where
@@ -41,7 +41,7 @@ module _ (es : List Entry) (w : ℕ) where
 
   -- the test and the formula
   wins-selects : (i : ℕ) → i < length es → wins i ≡ true → Selects es w i
-  unfolding beats
+  unfolding beatsAt givesWay
   wins-selects i h t =
       record {
         entry = h;
@@ -50,7 +50,7 @@ module _ (es : List Entry) (w : ℕ) where
       }
 
   selects-wins : (i : ℕ) → Selects es w i → wins i ≡ true
-  unfolding beats
+  unfolding beatsAt givesWay
   selects-wins i s =
       and-i (s .here)
       (every-make _ (length es) (λ j k. cases (eqb j i)
@@ -66,21 +66,21 @@ module _ (es : List Entry) (w : ℕ) where
 
   -- ---- the three answers
   pub names-exactly : (i : ℕ) → (select es w ≡ names i) ↔ Selects es w i
-  unfolding select judge
+  unfolding select judge judgeAt
   names-exactly i = (
     λ e. let f = first-some wins (length es) i (choice-names (first wins (length es)) (exists claimed (length es)) i e) in wins-selects i (f .0) (f .1),
     λ s. rw (first-only wins (length es) i (s .entry) (selects-wins i s) (λ j h t. selects-one i j s (wins-selects j h t))),
   )
 
   pub nothing-exactly : (select es w ≡ nothing) ↔ Unclaimed es w
-  unfolding select judge
+  unfolding select judge judgeAt
   nothing-exactly = (
     λ e. exists-none claimed (length es) (choice-nothing (first wins (length es)) _ e),
     λ u. rw (first-no wins (length es) (λ j h. isFalse (λ t. clash (and-l _ t) (u j h))), exists-no claimed (length es) u),
   )
 
   pub ambiguous-exactly : (select es w ≡ ambiguous) ↔ Contested es w
-  unfolding select judge
+  unfolding select judge judgeAt
   ambiguous-exactly = (
     λ e. let p = choice-ambiguous (first wins (length es)) (exists claimed (length es)) e in (
       exists-at claimed (length es) (p .1),

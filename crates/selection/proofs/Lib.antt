@@ -1,6 +1,4 @@
 pub mod Exclusion
-pub mod Judging
-pub mod Choosing
 pub mod Finding
 pub mod Formula
 pub mod Cases

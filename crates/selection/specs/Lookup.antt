@@ -8,7 +8,8 @@ use lib.Dec.{ltb}
 use Rattle.words.specs.Outcome.{Outcome, result, faulty, refused}
 use Rattle.table.specs.Table.{Table, entryPlace}
 use Rattle.table.specs.Check.{readTable}
-use Rattle.selection.specs.Selection.{Choice, names, nothing, ambiguous, select}
+use Rattle.choice.specs.Rule.{Choice, names, nothing, ambiguous}
+use Rattle.selection.specs.Selection.{select}
 use Rattle.selection.specs.declared.Selected.{Selected}
 use Rattle.selection.specs.declared.Selected.the-variants as code
 use Rattle.selection.specs.declared.Found.{Found}

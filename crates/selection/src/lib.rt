@@ -1,4 +1,5 @@
 // Selection: which entry of a table a word selects.
+use choice::Verdict;
 use table::Answer;
 use words::Cause;
 ghost use mathlib.Core.Path.{_≡_};
@@ -9,9 +10,12 @@ ghost use Rattle.words.specs.Outcome.{causeOf};
 ghost use Rattle.words.specs.Tests.{anyOf};
 ghost use Rattle.table.specs.Table.{patternAt, conditionsAt, entryAt};
 ghost use Rattle.table.specs.Check.{readTable};
-ghost use Rattle.selection.specs.Selection.{matches as matchesOf, satisfied, claims as claimsOf, moreSpecific};
+ghost use Rattle.choice.specs.Rule.{matches as matchesOf};
+ghost use Rattle.choice.specs.Status.{codeOf, Stated};
+ghost use Rattle.choice.specs.Judged.{entryPlaced};
+ghost use Rattle.selection.specs.Selection.{satisfied, claims as claimsOf};
 ghost use Rattle.selection.specs.Lookup.{said, lookOf, Finds};
-ghost use Rattle.selection.specs.Places.{Claimed, FirstLive, givesWayAt, beatsAt, Leads, Chosen};
+ghost use Rattle.selection.specs.Places.{statusFor, Chosen};
 
 // Whether a word matches the pattern at p.
 fn matches(ws: &[u32], p: usize, word: u32) -> bool
@@ -64,98 +68,28 @@ fn claims(ws: &[u32], p: u32, word: u32) -> bool
     !excluded(ws, words::part(head, 0, 4), first, word)
 }
 
-// Which of the n entries claim a word.
-fn claimed(ws: &[u32], places: &[u32; 256], n: usize, word: u32) -> [bool; 256]
-    requires { ⌜ n ≤ 256 ⌝ }
-    ensures { λ r. ⌜ Claimed (now (ws .entry)) (now (places .entry)) n word r ⌝ }
+// What the entry at p is for a word: sure if it claims the word, else dead.
+fn status_for(ws: &[u32], p: u32, word: u32) -> u8
+    ensures { λ r. ⌜ r ≡ codeOf (statusFor word (entryAt (now (ws .entry)) p)) ⌝ }
 {
-    let mut live = [false; 256];
+    if claims(ws, p, word) {
+        return choice::SURE;
+    }
+    choice::DEAD
+}
+
+// What each of the n entries at these places is for a word.
+fn statuses(ws: &[u32], places: &[u32; 256], n: usize, word: u32) -> [u8; 256]
+    requires { ⌜ n ≤ 256 ⌝ }
+    ensures { λ r. ⌜ Stated (λ j. statusFor word (entryPlaced (now (ws .entry)) (now (places .entry)) j)) n r ⌝ }
+{
+    let mut s = [choice::DEAD; 256];
     let mut k: usize = 0;
     while k < n {
-        live[k] = claims(ws, places[k], word);
+        s[k] = status_for(ws, places[k], word);
         k += 1;
     }
-    live
-}
-
-// Whether the entry at p is more specific than the one at q.
-pub fn more_specific(ws: &[u32], p: u32, q: u32) -> bool
-    ensures { λ r. ⌜ r ≡ moreSpecific (entryAt (now (ws .entry)) p) (entryAt (now (ws .entry)) q) ⌝ }
-{
-    let opcode = p as usize + 1;
-    let other = q as usize + 1;
-    let mask = words::word_at(ws, opcode);
-    let less = words::word_at(ws, other);
-    if mask & less != less {
-        return false;
-    }
-    if mask == less {
-        return false;
-    }
-    matches(ws, other, words::word_at(ws, opcode + 1))
-}
-
-// The first of n entries that is live, or n.
-fn first_live(live: &[bool; 256], n: usize) -> usize
-    requires { ⌜ n ≤ 256 ⌝ }
-    ensures { λ r. ⌜ FirstLive (now (live .entry)) n r ⌝ }
-{
-    let mut k: usize = 0;
-    while k < n {
-        if live[k] {
-            return k;
-        }
-        k += 1;
-    }
-    n
-}
-
-// The only entry that can win. Each live entry after the first takes the lead if it is more specific than the leader:
-// one that is more specific than every other live one takes it when its turn comes, and nobody takes it back.
-fn leader(ws: &[u32], places: &[u32; 256], live: &[bool; 256], n: usize, start: usize) -> usize
-    requires { ⌜ (n ≤ 256) × (start < n) × FirstLive (now live) n start ⌝ }
-    ensures { λ r. ⌜ Leads (now (ws .entry)) (now (places .entry)) (now (live .entry)) n r ⌝ }
-{
-    let mut lead = start;
-    let mut k = start + 1;
-    while k < n {
-        if live[k] {
-            if more_specific(ws, places[k], places[lead]) {
-                lead = k;
-            }
-        }
-        k += 1;
-    }
-    lead
-}
-
-// Whether entry j is i, or not live, or less specific than i.
-fn gives_way(ws: &[u32], places: &[u32; 256], live: &[bool; 256], i: usize, j: usize) -> bool
-    requires { ⌜ (i < 256) × (j < 256) ⌝ }
-    ensures { λ r. ⌜ r ≡ givesWayAt (now (ws .entry)) (now (places .entry)) (now (live .entry)) i j ⌝ }
-{
-    if j == i {
-        return true;
-    }
-    if !live[j] {
-        return true;
-    }
-    more_specific(ws, places[i], places[j])
-}
-
-// Whether entry i is more specific than every other live one.
-fn beats(ws: &[u32], places: &[u32; 256], live: &[bool; 256], n: usize, i: usize) -> bool
-    requires { ⌜ (n ≤ 256) × (i < n) ⌝ }
-    ensures { λ r. ⌜ r ≡ beatsAt (now (ws .entry)) (now (places .entry)) (now (live .entry)) n i ⌝ }
-{
-    let mut j: usize = 0;
-    while j < n {
-        if !gives_way(ws, places, live, i, j) {
-            return false;
-        }
-        j += 1;
-    }
-    true
+    s
 }
 
 // What a word selects: an entry or nothing; or why not: ambiguous, with the word (6), a bit at or above the width (7),
@@ -194,24 +128,21 @@ fn choose(ws: &[u32], places: &[u32; 256], n: usize, word: u32) -> Found
     requires { ⌜ n ≤ 256 ⌝ }
     ensures { λ r. ⌜ Chosen (now (ws .entry)) (now (places .entry)) n word r ⌝ }
 {
-    let live = claimed(ws, places, n, word);
-    let start = first_live(&live, n);
-    if n <= start {
-        return Found {
+    let s = statuses(ws, places, n, word);
+    let verdict = choice::judge(ws, places, &s, n);
+    match verdict {
+        Verdict::Names(i) => Found {
+            answer: Selected::Entry(i as u32),
+            place: places[i],
+        },
+        Verdict::Nothing => Found {
             answer: Selected::Nothing,
             place: 0,
-        };
-    }
-    let lead = leader(ws, places, &live, n, start);
-    if beats(ws, places, &live, n, lead) {
-        return Found {
-            answer: Selected::Entry(lead as u32),
-            place: places[lead],
-        };
-    }
-    Found {
-        answer: Selected::Ambiguous(word),
-        place: 0,
+        },
+        Verdict::Stuck => Found {
+            answer: Selected::Ambiguous(word),
+            place: 0,
+        },
     }
 }
 

@@ -16,23 +16,24 @@ use lib.Dec.{eqb, ltb, leb}
 use lib.ListN.{length, length-append, take}
 use lib.Seq.{getD-at}
 use borrow.Author.Tests.{eq-eqb, eqb-true, ltb-true, leb-true, lt-ltb}
-use Rattle.words.specs.Tests.{_and_, exists}
+use Rattle.words.specs.Tests.{_and_}
 use Rattle.words.specs.Words.{word, bit, bits}
 use Rattle.words.proofs.Logic.{cases, and-i, and-l, and-r, not-t, howMany-le}
 use Rattle.words.proofs.Parts.{part-lt}
 use Rattle.table.specs.Lawful.{goodTable}
-use Rattle.table.specs.Table.{Entry, Table, entryNumber}
+use Rattle.table.specs.Table.{Entry, Table}
 use Rattle.table.specs.Check.{readTable}
 use Rattle.words.specs.Outcome.{result}
-use Rattle.selection.specs.Selection.{Choice, names, nothing, ambiguous, claims, judge, select}
-use Rattle.selection.proofs.Judging.{answers, judge-names, judge-nothing}
+use Rattle.choice.specs.Rule.{Choice, names, nothing, ambiguous, judge}
+use Rattle.selection.specs.Selection.{claims, select}
+use Rattle.choice.proofs.Judging.{answers, judge-names, judge-nothing}
 use Rattle.flat.specs.Nodes.{headerOf, nodeOf, testNode, namesNode, nothingNode}
 use Rattle.flat.specs.declared.Header.{Header}
 use Rattle.flat.specs.declared.Header.the-variants.{Bad, Good}
 use Rattle.flat.specs.declared.Node.{Node}
 use Rattle.flat.specs.declared.Node.the-variants.{Damaged, Asks, Names, Nothing}
-use Rattle.cell.specs.Cell.{Cell, start, zeroSide, oneSide, live, sure, openEntry}
-use Rattle.cell.specs.Step.{free, tested, step}
+use Rattle.cell.specs.Cell.{Cell, start, zeroSide, oneSide, live, sure}
+use Rattle.cell.specs.Step.{free}
 use Rattle.tree.specs.Tree.{Tree, leaf, test, below, tree, size, answer, asked, conflict, ifConflict}
 use Rattle.tree.specs.Written.{testWord, leafWord, headerWord, nodes, written}
 use Rattle.tree.specs.Walk.{arrives, after, named, path, enters, walkOf}
@@ -379,11 +380,11 @@ conflict-none a w e q = let r : ifConflict ambiguous w ≡ none = rw q at e in l
 
 -- without a conflict it is right
 pub tree-agrees : (es : List Entry) (width : ℕ) → goodTable width es ≡ true → conflict start (tree es width) ≡ none → Agrees es start (tree es width)
-unfolding Agrees conflict tree below step
+unfolding Agrees conflict tree below
 tree-agrees es width good =
     induct es width good (λ c t. conflict c t ≡ none → Agrees es c t)
     (λ c a e k. (
-      sym (step-end (judge es (sure c) (live c)) (exists (λ j. openEntry c (entryNumber es j)) (length es)) (tested es width c) a e .0),
+      sym (step-end es width c a e .0),
       conflict-none a (c .bits) k,
     ))
     (λ c i l r e b f zs os k. let s = or-none _ _ k in (f, zs (s .0), os (s .1)))

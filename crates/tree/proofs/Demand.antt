@@ -23,7 +23,8 @@ use Rattle.table.specs.Check.{Check, fine, fault, tableCheck, reading, readTabl
 use Rattle.table.specs.Lawful.{goodTable}
 use Rattle.table.proofs.Laws.{then-l, first-count, first-wide, first-width, length-entries}
 use Rattle.table.proofs.Good.{table-good}
-use Rattle.selection.specs.Selection.{Choice, names, nothing, ambiguous, select}
+use Rattle.choice.specs.Rule.{Choice, names, nothing, ambiguous}
+use Rattle.selection.specs.Selection.{select}
 use Rattle.selection.proofs.Formula.{Selects, Unclaimed, Contested, names-exactly, nothing-exactly, ambiguous-exactly}
 use Rattle.cell.specs.Cell.{start}
 use Rattle.tree.specs.Tree.{Tree, tree, size, asked, distinct, conflict}

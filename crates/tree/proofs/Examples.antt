@@ -11,9 +11,9 @@ use Rattle.table.specs.Table.{Entry, tableOf}
 use Rattle.table.specs.Check.{readTable}
 use Rattle.table.specs.Worked.{printed, worked}
 use Rattle.table.proofs.Examples.{opened}
-use Rattle.selection.specs.Selection.{names, nothing, matches, moreSpecific, beats, judge}
+use Rattle.choice.specs.Rule.{names, nothing, matches, moreSpecific, judge, judgeAt, beatsAt, givesWay}
 use Rattle.cell.specs.Cell.{start, implies, clashes, holds, fails, openCondition, dead, live, sure, openEntry}
-use Rattle.cell.specs.Step.{votes, inCondition, inOpen, wanted, tested, step, free}
+use Rattle.cell.specs.Step.{votesAt, inCondition, inOpen, wantedAt, testedAt, settledAt, stepAt, step, free}
 use Rattle.tree.specs.Tree.{leaf, test, treeOf, below, tree, size, conflict}
 use Rattle.tree.specs.Written.{headerWord, testWord, leafWord, nodes, written}
 use Rattle.tree.specs.Generate.{fits, judged, generateOf, leftBy, bufferOf, tableWith}
@@ -23,7 +23,7 @@ use Rattle.tree.specs.Checker.{isStepOne, isStepTwo, checkFrom, checkBel
 
 -- a tree and its first conflict, with every definition open
 unfoldable grown : List Entry → ℕ → Option ℕ
-unfolding conflict size tree below free treeOf step tested wanted inOpen inCondition votes openEntry sure live dead openCondition fails holds clashes implies matches judge beats moreSpecific first exists every howMany best anyOf allOf bit _and_ _or_ includes orElse
+unfolding conflict size tree below free treeOf step stepAt settledAt testedAt wantedAt inOpen inCondition votesAt openEntry sure live dead openCondition fails holds clashes implies matches judge judgeAt beatsAt givesWay moreSpecific first exists every howMany best anyOf allOf bit _and_ _or_ includes orElse
 grown es width = conflict start (tree es width)
 
 -- an entry without conditions

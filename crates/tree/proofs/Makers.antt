@@ -8,7 +8,7 @@ use lib.Bits.{bitOr}
 use lib.ListN.{set}
 use Rattle.words.specs.Words.{bit}
 use Rattle.table.specs.Table.{Entry}
-use Rattle.selection.specs.Selection.{Choice}
+use Rattle.choice.specs.Rule.{Choice}
 use Rattle.cell.specs.Cell.{Cell, zeroSide, oneSide}
 use Rattle.cell.specs.Step.{free}
 use Rattle.tree.specs.Tree.{Tree, leaf, size, below, ifConflict}

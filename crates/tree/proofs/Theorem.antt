@@ -11,17 +11,18 @@ use lib.Bits.{bitAnd, bitOr, and-comm, or-lt, and-zero-r, or-zero-r}
 use lib.Dec.{eqb}
 use lib.Pow.{pow-lt, pow-pos}
 use lib.ListN.{length}
-use Rattle.words.specs.Tests.{_or_, exists}
+use Rattle.words.specs.Tests.{_or_}
 use Rattle.words.specs.Words.{bit}
 use Rattle.table.specs.Lawful.{goodTable}
 use Rattle.table.specs.Table.{Entry, entryNumber}
-use Rattle.selection.specs.Selection.{Choice, names, nothing, ambiguous, claims, judge, select}
+use Rattle.choice.specs.Rule.{Choice, names, nothing, ambiguous, judge}
+use Rattle.selection.specs.Selection.{claims, select}
 use Rattle.cell.specs.Cell.{Cell, start, zeroSide, oneSide, live, sure, openEntry}
-use Rattle.cell.specs.Step.{Step, end, split, free, tested, step}
+use Rattle.cell.specs.Step.{Step, end, split, free, step}
 use Rattle.tree.specs.Tree.{Tree, leaf, test, treeOf, below, tree, answer, asked, isIn, distinct, conflict, ifConflict}
 use Rattle.words.proofs.Bits.{bit-and, bit-or, bit-pow, and-or, and-pow}
 use Rattle.words.proofs.Logic.{cases, options, clash, isFalse, same, and-i, and-r, or-l, or-ir, or-e, not-it, exists-none, howMany-le}
-use Rattle.selection.proofs.Judging.{answers, judge-names, judge-nothing, judge-same}
+use Rattle.choice.proofs.Judging.{answers, judge-names, judge-nothing, judge-same}
 use Rattle.cell.proofs.Cells.{In, sure-claims, claims-live, closed-sure, step-end, split-right, in-zero, in-one, free-less}
 
 -- by cases on a step
@@ -75,10 +76,9 @@ fresh-more width fixed i bs h f r =
 module _ (es : List Entry) (width : ℕ) (good : goodTable width es ≡ true) where
   -- a leaf's answer is the selection of every word of its cell
   pub leaf-right : (c : Cell) (a : Choice) → step es width c ≡ end a → (w : ℕ) → In c w → select es w ≡ a
-  unfolding step select
+  unfolding select
   leaf-right c a e w h =
-      let r : (judge es (sure c) (live c) ≡ a) × (judge es (sure c) (live c) ≡ ambiguous → exists (λ j. openEntry c (entryNumber es j)) (length es) ≡ false)
-      = step-end (judge es (sure c) (live c)) (exists (λ j. openEntry c (entryNumber es j)) (length es)) (tested es width c) a e in
+      let r = step-end es width c a e in
       answers (judge es (sure c) (live c))
       (λ i k. judge-names es (sure c) (live c) (claims w) (sure-claims c w h) (claims-live c w h) i k ∙ sym k ∙ r .0)
       (λ k. judge-nothing es (sure c) (live c) (claims w) (sure-claims c w h) (claims-live c w h) k ∙ sym k ∙ r .0)

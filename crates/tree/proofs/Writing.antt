@@ -8,7 +8,7 @@ use native.Mathlib.Omega.{arith}
 use lib.ListN.{length, set, length-append}
 use lib.Seq.{sets}
 use Rattle.words.proofs.Lists.{sets-append, set-sets}
-use Rattle.selection.specs.Selection.{Choice, nothing, ambiguous}
+use Rattle.choice.specs.Rule.{Choice, names, nothing, ambiguous}
 use Rattle.cell.specs.Cell.{Cell, zeroSide, oneSide}
 use Rattle.tree.specs.Tree.{Tree, leaf, test, size, conflict, ifConflict}
 use Rattle.tree.specs.Written.{leafWord, testWord, nodes}

@@ -12,7 +12,7 @@ ghost use lib.ListN.{length, set, replicate};
 ghost use Rattle.words.specs.Words.{bit};
 ghost use Rattle.table.specs.Ready.{Ready};
 ghost use Rattle.table.specs.Table.{entriesAt};
-ghost use Rattle.selection.specs.Selection.{names, nothing};
+ghost use Rattle.choice.specs.Rule.{names, nothing};
 ghost use Rattle.tree.specs.Tree.{below};
 ghost use Rattle.tree.specs.Written.{leafWord, testWord, headerWord};
 ghost use Rattle.cell.specs.Decide.{cell as cellOf};

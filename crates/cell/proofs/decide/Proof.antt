@@ -1,21 +1,25 @@
-use denote.Ref.{now}
-use Prim.Native.Nat.{_<_, min}
-use Rattle.cell.specs.Decide.{cell, stepAt, decisionOf}
-use Rattle.cell.specs.declared.Decision.{Decision}
-use Rattle.cell.proofs.Deciding.{decide-names, decide-nothing, decide-conflict, decide-test}
-use borrow.Author.Tests.{not-true, not-false}
-use native.Mathlib.Omega.{arith}
 use mathlib.Core.Path.{_≡_, sym, _∙_}
+use native.Mathlib.Omega.{arith}
+use borrow.Author.Tests.{not-true, not-false}
+use Rattle.cell.proofs.Deciding.{decide-names, decide-nothing, decide-conflict, decide-test}
+use Rattle.cell.specs.Decide.{cell}
+use Rattle.cell.specs.Step.{end, stepAt}
+use Rattle.choice.specs.Judged.{entryPlaced}
+use Rattle.choice.specs.Rule.{names}
+use Prim.Native.Nat.{_<_, min}
+use denote.Ref.{now}
 use borrow.Author.Needs.{needs}
 use Rattle.cell.proofs.decide.Statement.{statement}
 use Rattle.cell.proofs.decide.Tie as tie
 
 -- a named entry, of the n that were judged
-named : (c : tie.After-known-told) → let a = c .before .before .before .before .before .before .before .args in
-    let n = c .before .before .before .before .before .lesser .result in
+named : (c : tie.After-known-told) → let a = c .before .before .before .before .before .before .before .before .before .args in
+    let n = c .before .before .before .before .before .before .before .lesser .result in
     let i = c .before .verdict .given .0 .0 in
-    (Decision.Names i ≡ decisionOf (stepAt (now (a .table)) (now (a .places)) n (min (a .width) 32) (cell (a .fixed) (a .bits)))) × (i < n)
-named c = decide-names _ _ _ _ _ (c .before .before .before .before .statuses .ensures) _ _ (c .before .before .before .judge .ensures) _ (c .before .verdict .given .1)
+    (end (names i) ≡ stepAt (entryPlaced (now (a .table)) (now (a .places))) n (min (a .width) 32) (cell (a .fixed) (a .bits))) × (i < n)
+named c =
+    let j = c .before .before .before in
+    decide-names _ _ _ _ (j .before .before .statuses .ensures) (omega (arith, j .before .before .before .before .lesser .ensures)) (j .judge .result) (j .judge .ensures) _ _ (c .before .verdict .given .1)
 
 lesser-requires : tie.Need-lesser-requires
 lesser-requires c κs = search needs
@@ -29,8 +33,8 @@ judge-requires c κs = search needs
 enum-known-verdict : tie.Need-enum-known-verdict
 enum-known-verdict c = search needs
 
-cast-t14 : tie.Need-cast-t14
-cast-t14 c = omega (arith, named c .1, c .before .before .before .before .before .lesser .ensures)
+cast-t17 : tie.Need-cast-t17
+cast-t17 c = omega (arith, named c .1, c .before .before .before .before .before .before .before .lesser .ensures)
 
 enum-told : tie.Need-enum-told
 enum-told c = search needs
@@ -43,9 +47,9 @@ any-open-requires c κs = search needs
 
 returns : tie.Need-returns
 returns c =
-    let j = c .before .before .before .before in
-    rw (← j .before .before .lesser .ensures)
-    (decide-conflict _ _ _ _ _ (j .before .statuses .ensures) _ _ (j .judge .ensures) (c .before .before .enum-told2 .given .1) (sym (c .before .any-open .ensures) ∙ not-true _ (c .if1 .taken)))
+    let j = c .before .before .before .before .before in
+    rw (← j .before .before .before .before .lesser .ensures)
+    (decide-conflict _ _ _ _ (j .before .before .statuses .ensures) (omega (arith, j .before .before .before .before .lesser .ensures)) (j .judge .result) (j .judge .ensures) _ (c .before .before .before .enum-told2 .given .1) (sym (c .before .any-open .ensures) ∙ not-true _ (c .if1 .taken)))
 
 lesser-requires-2 : tie.Need-lesser-requires-2
 lesser-requires-2 c κs = search needs
@@ -56,23 +60,23 @@ cast-top c = search needs
 bit-to-test-requires : tie.Need-bit-to-test-requires
 bit-to-test-requires c κs = search needs
 
-cast-t19 : tie.Need-cast-t19
-cast-t19 c = search needs
+cast-t24 : tie.Need-cast-t24
+cast-t24 c = search needs
 
 returns-2 : tie.Need-returns-2
-returns-2 c = rw (← c .before .before .before .before .before .lesser .ensures) (named c .0)
+returns-2 c = rw (← c .before .before .before .before .before .before .before .lesser .ensures) (named c .0)
 
 returns-3 : tie.Need-returns-3
 returns-3 c =
     let j = c .before .before in
-    rw (← j .before .before .lesser .ensures) (decide-nothing _ _ _ _ _ (j .before .statuses .ensures) _ _ (j .judge .ensures) (c .enum-told .given .1))
+    rw (← j .before .before .before .before .lesser .ensures)
+    (decide-nothing _ _ _ _ (j .before .before .statuses .ensures) (omega (arith, j .before .before .before .before .lesser .ensures)) (j .judge .result) (j .judge .ensures) _ (c .enum-told .given .1))
 
 returns-4 : tie.Need-returns-4
 returns-4 c =
-    let o = c .before .before .before in
-    let j = o .before .before .before in
-    rw (← j .before .before .lesser .ensures, ← c .before .lesser2 .ensures)
-    (decide-test _ _ _ _ _ (j .before .statuses .ensures) _ _ (j .judge .ensures) _ (o .before .enum-told2 .given .1) (sym (o .any-open .ensures) ∙ not-false _ (c .before .before .if1 .left)) (c .bit-to-test .ensures .0))
+    let j = c .before .before .before .before .before .before .before .before in
+    rw (← j .before .before .before .before .lesser .ensures, ← c .before .before .lesser2 .ensures)
+    (decide-test _ _ _ _ (j .before .before .statuses .ensures) (omega (arith, j .before .before .before .before .lesser .ensures)) (j .judge .result) (j .judge .ensures) _ _ (c .before .before .before .before .before .before .enum-told2 .given .1) (sym (c .before .before .before .before .any-open .ensures) ∙ not-false _ (c .before .before .before .if1 .left)) (c .bit-to-test .ensures .0))
 
 pub decide-spec : {M : Type 1} → statement M
 decide-spec =
@@ -82,7 +86,7 @@ decide-spec =
     statuses-requires
     judge-requires
     enum-known-verdict
-    cast-t14
+    cast-t17
     enum-told
     enum-told-2
     any-open-requires
@@ -90,7 +94,7 @@ decide-spec =
     lesser-requires-2
     cast-top
     bit-to-test-requires
-    cast-t19
+    cast-t24
     returns-2
     returns-3
     returns-4)

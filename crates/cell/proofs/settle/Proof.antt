@@ -1,6 +1,4 @@
-use Rattle.cell.specs.Decide.{verdictOf}
-use Rattle.cell.proofs.Deciding.{settled-by}
-use mathlib.Core.Path.{ap, _∙_}
+use Rattle.cell.proofs.Deciding.{settled}
 use borrow.Author.Needs.{needs}
 use Rattle.cell.proofs.settle.Statement.{statement}
 use Rattle.cell.proofs.settle.Tie as tie
@@ -15,9 +13,7 @@ judge-requires : tie.Need-judge-requires
 judge-requires c κs = search needs
 
 returns : tie.Need-returns
-returns c =
-    rw (← c .before .before .lesser .ensures)
-    (c .judge .ensures ∙ ap verdictOf (settled-by _ _ _ _ _ (c .before .statuses .ensures)))
+returns c = rw (← c .before .before .before .before .lesser .ensures) (settled _ _ _ _ (c .before .before .statuses .ensures) (search needs) (c .judge .result) (c .judge .ensures))
 
 pub settle-spec : {M : Type 1} → statement M
 settle-spec = tie.close (tie.spec lesser-requires statuses-requires judge-requires returns)

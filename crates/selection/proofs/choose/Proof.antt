@@ -1,53 +1,67 @@
-use Rattle.selection.proofs.Finding.{chosen-none, chosen-one, chosen-many}
-use Rattle.selection.specs.Lookup.{lookedUp}
+use Prim.Native.Nat.{_<_}
 use mathlib.Core.Path.{_≡_, refl, sym, ap, _∙_}
-use native.Mathlib.Omega.{arith}
-use Prim.Native.Nat.{_≤_, _<_}
+use denote.Ref.{now}
+use Rattle.selection.proofs.Finding.{judged, chosen-lt}
+use Rattle.selection.specs.Places.{chosenAt}
+use Rattle.selection.specs.Lookup.{lookedUp}
+use Rattle.choice.specs.Judged.{saidVerdict}
 use borrow.Author.Needs.{needs}
 use Rattle.selection.proofs.choose.Statement.{statement}
 use Rattle.selection.proofs.choose.Tie as tie
 
-claimed-requires : tie.Need-claimed-requires
-claimed-requires c κs = search needs
+-- what the judge says, of the n entries; and that a named entry is one of them
+answer : (c : tie.After-judge) → let a = c .before .before .before .before .args in
+    saidVerdict (c .judge .result) ≡ chosenAt (now (a .ws)) (now (a .places)) (a .n) (a .word)
+answer c = judged _ _ _ _ (c .before .before .before .before .pre) (c .before .before .statuses .result) (c .before .before .statuses .ensures) (c .judge .result) (c .judge .ensures)
 
-first-live-requires : tie.Need-first-live-requires
-first-live-requires c κs = search needs
+below : (c : tie.After-known-told) → c .before .verdict .given .0 .0 < c .before .before .before .before .before .before .before .args .n
+below c = chosen-lt _ _ _ _ _ (sym (answer (c .before .before .before)) ∙ ap saidVerdict (c .before .verdict .given .1))
+
+statuses-requires : tie.Need-statuses-requires
+statuses-requires c κs = search needs
+
+judge-requires : tie.Need-judge-requires
+judge-requires c κs = search needs
+
+enum-known-verdict : tie.Need-enum-known-verdict
+enum-known-verdict c = search needs
+
+cast-t11 : tie.Need-cast-t11
+cast-t11 c = let b = below c in search needs
+
+mul-t13 : tie.Need-mul-t13
+mul-t13 c = let b = below c in search needs
+
+element-copy-out-t16 : tie.Need-element-copy-out-t16
+element-copy-out-t16 c = let b = below c in search needs
+
+enum-told : tie.Need-enum-told
+enum-told c = search needs
+
+enum-told-2 : tie.Need-enum-told-2
+enum-told-2 c = search needs
 
 returns : tie.Need-returns
-returns c = record { live = _; claimed = c .before .before .before .claimed .ensures; answer = ap (lookedUp _) (sym (chosen-none _ _ (c .before .before .before .claimed .result) _ _ (c .if1 .taken) (c .before .first-live .ensures))); place = refl; bound = tt }
-
-leader-requires : tie.Need-leader-requires
-leader-requires c κs = (c .before .before .before .before .before .before .pre, omega arith, c .before .before .first-live .ensures)
-
-beats-requires : tie.Need-beats-requires
-beats-requires c κs = search needs
-
-cast-t15 : tie.Need-cast-t15
-cast-t15 c = search needs
-
-mul-t17 : tie.Need-mul-t17
-mul-t17 c = search needs
-
-element-copy-out-t20 : tie.Need-element-copy-out-t20
-element-copy-out-t20 c = search needs
+returns c = record { answer = ap (lookedUp _) (sym (ap saidVerdict (c .before .before .verdict .given .1)) ∙ answer (c .before .before .before .before)); place = refl; bound = below (c .before) }
 
 returns-2 : tie.Need-returns-2
-returns-2 c = record { live = _; claimed = c .before .before .before .before .before .before .before .before .before .claimed .ensures; answer = ap (lookedUp _) (sym (chosen-one _ _ (c .before .before .before .before .before .before .before .before .before .claimed .result) _ _ (c .before .before .before .before .leader .ensures) (sym (c .before .before .beats .ensures) ∙ c .before .if2 .taken))); place = refl; bound = c .before .before .before .before .leader .ensures .bound }
+returns-2 c = record { answer = ap (lookedUp _) (sym (ap saidVerdict (c .enum-told .given .1)) ∙ answer (c .before .before)); place = refl; bound = tt }
 
 returns-3 : tie.Need-returns-3
-returns-3 c = record { live = _; claimed = c .before .before .before .before .before .before .before .before .claimed .ensures; answer = ap (lookedUp _) (sym (chosen-many _ _ (c .before .before .before .before .before .before .before .before .claimed .result) _ _ (c .before .before .before .leader .ensures) (sym (c .before .beats .ensures) ∙ c .if2 .left))); place = refl; bound = tt }
+returns-3 c = record { answer = ap (lookedUp _) (sym (ap saidVerdict (c .enum-told2 .given .1)) ∙ answer (c .before .before)); place = refl; bound = tt }
 
 pub choose-spec : {M : Type 1} → statement M
 choose-spec =
     tie.close
     (tie.spec
-    claimed-requires
-    first-live-requires
+    statuses-requires
+    judge-requires
+    enum-known-verdict
+    cast-t11
+    mul-t13
+    element-copy-out-t16
+    enum-told
+    enum-told-2
     returns
-    leader-requires
-    beats-requires
-    cast-t15
-    mul-t17
-    element-copy-out-t20
     returns-2
     returns-3)

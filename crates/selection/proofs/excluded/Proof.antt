@@ -1,15 +1,16 @@
 use Rattle.words.proofs.Parts.{part-of, part-lt}
-use Prim.Native.Nat.{ℕ, _+_, _*_, _-_, _≤_, _<_}
-use mathlib.Core.Path.{_≡_, refl, sym, ap, _∙_}
+use Prim.Native.Nat.{_+_, _*_, _≤_, _<_}
+use mathlib.Core.Path.{_≡_, refl, sym, _∙_}
 use mathlib.Core.Logic.{⊎-elim}
 use native.Mathlib.Omega.{arith}
 use borrow.Author.Tests.{lt-ltb, le-ltb}
 use Rattle.selection.proofs.Exclusion.{unmatching-pass, unmatching-found, unmatching-none, condition-pass, condition-found, condition-none, satisfies, fails-unmatching, fails-matching}
-use Rattle.selection.specs.Selection.{matches, satisfied}
+use Rattle.choice.specs.Rule.{matches}
+use Rattle.selection.specs.Selection.{satisfied}
 use Rattle.words.specs.Words.{word, part}
 use Rattle.table.specs.Table.{unmatchingAt, conditionAt, conditionsAt, unmatchingOf}
 use Rattle.words.specs.Tests.{anyOf}
-use mathlib.Core.Bool.{true, false}
+use mathlib.Core.Bool.{false}
 use lib.Dec.{ltb}
 use borrow.Author.Needs.{needs}
 use Rattle.selection.proofs.excluded.Statement.{statement}

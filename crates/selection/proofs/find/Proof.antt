@@ -3,7 +3,7 @@ use Rattle.table.specs.Ready.{Ready}
 use Rattle.table.proofs.Views.{reading-ready, reading-faulty, ready-few}
 use borrow.Author.Tests.{not-true, not-false}
 use denote.Ref.{now}
-use mathlib.Core.Path.{_≡_, refl, sym, _∙_}
+use mathlib.Core.Path.{refl, sym, _∙_}
 use borrow.Author.Needs.{needs}
 use Rattle.selection.proofs.find.Statement.{statement}
 use Rattle.selection.proofs.find.Tie as tie
@@ -42,7 +42,7 @@ returns-3 c =
     let r = c .choose .ensures in
     let g = good (c .before .before .before .before) in
     record {
-      answer = looked _ _ _ _ _ g _ _ (sym (c .before .before .before .fits2 .ensures) ∙ not-false _ (c .before .before .if1 .left)) (r .answer) (chosen-is _ _ _ _ g _ _ (r .claimed));
+      answer = looked _ _ _ _ _ g _ _ (sym (c .before .before .before .fits2 .ensures) ∙ not-false _ (c .before .before .if1 .left)) (r .answer) (chosen-is _ _ _ _ g _);
       place = r .place ∙ place-found _ _ _ _ g (c .choose .result .answer) (r .bound);
     }
 

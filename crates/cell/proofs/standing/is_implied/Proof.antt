@@ -1,7 +1,7 @@
 use borrow.Author.Tests.{eq-eqb, ne-eqb}
 use Rattle.words.specs.Tests.{_and_}
 use Rattle.words.specs.Words.{includes}
-use Rattle.selection.specs.Selection.{matches}
+use Rattle.choice.specs.Rule.{matches}
 use Rattle.cell.specs.Cell.{implies}
 use borrow.Author.Needs.{needs}
 use Rattle.cell.proofs.standing.is_implied.Statement.{statement}

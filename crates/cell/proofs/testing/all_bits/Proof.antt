@@ -1,6 +1,8 @@
 use Rattle.words.specs.Tests.{_or_, exists}
 use Rattle.words.specs.Words.{bit}
-use Rattle.cell.specs.Decide.{cell, listed, inSome}
+use Rattle.choice.specs.Status.{openIn}
+use Rattle.choice.specs.Judged.{entryPlaced}
+use Rattle.cell.specs.Decide.{cell, inSome}
 use Rattle.words.proofs.Bits.{bit-none, bit-or}
 use Rattle.cell.proofs.Loops.{exists-more}
 use native.Mathlib.Omega.{arith}
@@ -11,10 +13,10 @@ use Rattle.cell.proofs.testing.all_bits.Statement.{statement}
 use Rattle.cell.proofs.testing.all_bits.Tie as tie
 
 abbrev Inv-loop : tie.InvT-loop
-Inv-loop table places count fixed bits s found₀ j₀ found j = (j ≤ count) × ((i : ℕ) → bit found i ≡ inSome table places (listed s) j (cell fixed bits) i)
+Inv-loop table places s count fixed bits found₀ j₀ found j = (j ≤ count) × ((i : ℕ) → bit found i ≡ inSome (entryPlaced table places) (openIn s) j (cell fixed bits) i)
 
 abbrev μ-loop : tie.MeasureT-loop
-μ-loop table places count fixed bits s found₀ j₀ found j = count - j
+μ-loop table places s count fixed bits found₀ j₀ found j = count - j
 
 loop-holds : tie.Need-loop-holds Inv-loop μ-loop
 unfolding inSome exists
@@ -26,8 +28,8 @@ mul-entry-bits c = search needs
 element-copy-out-entry-bits : tie.Need-element-copy-out-entry-bits Inv-loop μ-loop
 element-copy-out-entry-bits c = search needs
 
-array-copy-out-entry-bits : tie.Need-array-copy-out-entry-bits Inv-loop μ-loop
-array-copy-out-entry-bits c = search needs
+element-copy-out-entry-bits-2 : tie.Need-element-copy-out-entry-bits-2 Inv-loop μ-loop
+element-copy-out-entry-bits-2 c = search needs
 
 entry-bits-requires : tie.Need-entry-bits-requires Inv-loop μ-loop
 entry-bits-requires c κs = search needs
@@ -46,7 +48,7 @@ returns : tie.Need-returns Inv-loop μ-loop
 returns c =
     let a = c .before .before .before .args in
     let e : c .before .loop .j ≡ a .count = omega arith in
-    λ i. c .before .loop .inv .1 i ∙ ap (λ (x : ℕ). inSome (a .table .now) (a .places .now) (listed (a .t3)) x (cell (a .fixed) (a .bits)) i) e
+    λ i. c .before .loop .inv .1 i ∙ ap (λ (x : ℕ). inSome (entryPlaced (a .table .now) (a .places .now)) (openIn (a .s .now)) x (cell (a .fixed) (a .bits)) i) e
 
 pub all-bits-spec : {M : Type 1} → statement M
 all-bits-spec =
@@ -57,7 +59,7 @@ all-bits-spec =
     loop-holds
     mul-entry-bits
     element-copy-out-entry-bits
-    array-copy-out-entry-bits
+    element-copy-out-entry-bits-2
     entry-bits-requires
     add-j
     loop-less

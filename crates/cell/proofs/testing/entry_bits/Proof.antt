@@ -1,20 +1,17 @@
 use Rattle.words.specs.Tests.{_and_}
-use Rattle.cell.specs.Decide.{cell, inEntry}
+use Rattle.cell.specs.Decide.{cell}
 use Rattle.cell.specs.Step.{inOpen}
 use Rattle.words.proofs.Bits.{bit-none}
 use Rattle.cell.proofs.Parts.{entry-any}
-use borrow.Author.Tests.{not-true, not-false}
-use mathlib.Core.Path.{refl, sym, _∙_}
+use borrow.Author.Tests.{eq-eqb, ne-eqb}
+use mathlib.Core.Path.{refl}
 use borrow.Author.Needs.{needs}
 use Rattle.cell.proofs.testing.entry_bits.Statement.{statement}
 use Rattle.cell.proofs.testing.entry_bits.Tie as tie
 
-is-open-requires : tie.Need-is-open-requires
-is-open-requires c κs = search needs
-
 returns : tie.Need-returns
-unfolding inEntry _and_
-returns c = λ i. rw (sym (c .before .is-open .ensures) ∙ not-true _ (c .if1 .taken)) (bit-none i)
+unfolding _and_
+returns c = λ i. rw (ne-eqb _ _ (c .if1 .taken)) (bit-none i)
 
 word-at-requires : tie.Need-word-at-requires
 word-at-requires c κs = search needs
@@ -35,18 +32,17 @@ open-bits-requires : tie.Need-open-bits-requires
 open-bits-requires c κs = search needs
 
 returns-2 : tie.Need-returns-2
-unfolding inEntry inOpen _and_
+unfolding inOpen _and_
 returns-2 c = λ i.
     let b = c .before .before .before .before in
-    let a = b .before .before .before .args in
-    rw (sym (b .before .is-open .ensures) ∙ not-false _ (b .if1 .left))
+    let a = b .before .before .args in
+    rw (eq-eqb _ _ (b .if1 .left))
     (entry-any (a .table .now) (cell (a .fixed) (a .bits)) (a .p) _ _ _ _ (c .before .before .before .word-at .ensures) (c .before .before .followers .ensures .0) (c .before .fields .ensures .0) refl _ _ (c .open-bits .ensures i))
 
 pub entry-bits-spec : {M : Type 1} → statement M
 entry-bits-spec =
     tie.close
     (tie.spec
-    is-open-requires
     returns
     word-at-requires
     followers-requires

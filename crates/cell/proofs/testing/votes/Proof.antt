@@ -28,9 +28,6 @@ element-copy-out-n c = search needs
 shr-n : tie.Need-shr-n Inv-loop μ-loop
 shr-n c = search needs
 
-cast-n : tie.Need-cast-n Inv-loop μ-loop
-cast-n c = omega (arith, digit-le (getD (c .before .before .before .args .masks .now) (c .before .before .loop .j) 0) (c .before .before .before .args .i))
-
 add-n : tie.Need-add-n Inv-loop μ-loop
 add-n c = omega (arith, digit-le (getD (c .before .before .before .args .masks .now) (c .before .before .loop .j) 0) (c .before .before .before .args .i))
 
@@ -59,7 +56,6 @@ votes-spec =
     mul-n
     element-copy-out-n
     shr-n
-    cast-n
     add-n
     add-j
     loop-less

@@ -1,0 +1,115 @@
+-- The rule: two entries do not beat each other; fewer that pass are judged the same; who is named, and what it depends on. Assumes nothing.
+use Prim.Native.Nat.{ℕ, _<_}
+use native.Mathlib.Omega.{arith}
+use mathlib.Core.Path.{_≡_, refl, sym, ap₂, _∙_}
+use mathlib.Core.Bool.{Bool, true, false, not}
+use mathlib.Core.List.{List}
+use mathlib.Core.Option.{Option, none, some}
+use lib.Bits.{bitAnd, and-comm}
+use lib.Dec.{eqb}
+use lib.ListN.{length}
+use borrow.Author.Tests.{eqb-true, eqb-false, ne-eqb}
+use Rattle.words.specs.Tests.{_and_, _or_, exists, first}
+use Rattle.words.proofs.Bits.{includes-true}
+use Rattle.table.specs.Table.{Entry, entryNumber}
+use Rattle.choice.specs.Rule.{Choice, names, nothing, ambiguous, choiceOf, moreSpecific, givesWay, beatsAt, judgeAt, beats, judge}
+use Rattle.words.proofs.Logic.{cases, clash, isFalse, and-l, and-r, and-i, or-il, or-ir, or-i, or-e, not-t, not-it, not-if, every-at, every-make, every-same, exists-none, exists-no, exists-same, first-some, first-no, first-only, first-same}
+
+-- two entries are not each more specific than the other
+pub not-mutual : (e f : Entry) → moreSpecific e f ≡ true → moreSpecific f e ≡ true → ⊥
+unfolding moreSpecific
+not-mutual e f h k =
+    let a : bitAnd (e .opcode .mask) (f .opcode .mask) ≡ f .opcode .mask = includes-true _ _ (and-l _ (and-l _ h)) in
+    let b : bitAnd (f .opcode .mask) (e .opcode .mask) ≡ e .opcode .mask = includes-true _ _ (and-l _ (and-l _ k)) in
+    let c : eqb (e .opcode .mask) (f .opcode .mask) ≡ false = not-t (and-r _ (and-l _ h)) in
+    eqb-false _ _ c (sym b ∙ and-comm (f .opcode .mask) (e .opcode .mask) ∙ a)
+
+-- by cases on a choice
+pub answers {ℓ} : {G : Type ℓ} (a : Choice) → ((i : ℕ) → a ≡ names i → G) → (a ≡ nothing → G) → (a ≡ ambiguous → G) → G
+answers (names i) f g h = f i refl
+answers nothing f g h = g refl
+answers ambiguous f g h = h refl
+
+-- what a choice tells of its two parts
+pub choice-names : (o : Option ℕ) (b : Bool) (i : ℕ) → choiceOf o b ≡ names i → o ≡ some i
+choice-names (some j) b i e = cc
+choice-names none true i e = cc
+choice-names none false i e = cc
+
+pub choice-nothing : (o : Option ℕ) (b : Bool) → choiceOf o b ≡ nothing → b ≡ false
+choice-nothing (some j) b e = cc
+choice-nothing none true e = cc
+choice-nothing none false e = refl
+
+pub choice-ambiguous : (o : Option ℕ) (b : Bool) → choiceOf o b ≡ ambiguous → (o ≡ none) × (b ≡ true)
+choice-ambiguous (some j) b e = absurd (let z : _≡_ {A = ℕ} 0 1 = cc in omega arith)
+choice-ambiguous none true e = (refl, refl)
+choice-ambiguous none false e = absurd (let z : _≡_ {A = ℕ} 0 1 = cc in omega arith)
+
+-- entries and tests that agree below n are judged the same
+module _ (e f : ℕ → Entry) (s t l m : ℕ → Bool) (n : ℕ) (he : (j : ℕ) → j < n → e j ≡ f j) (hs : (j : ℕ) → j < n → s j ≡ t j) (hl : (j : ℕ) → j < n → l j ≡ m j) where
+  beats-alike : (i : ℕ) → i < n → beatsAt e l n i ≡ beatsAt f m n i
+  unfolding beatsAt givesWay
+  beats-alike i h = every-same _ _ n (λ j k. ap₂ (λ (b d : Bool). eqb j i or not b or d) (hl j k) (ap₂ moreSpecific (he i h) (he j k)))
+
+  pub judge-alike : judgeAt e s l n ≡ judgeAt f t m n
+  unfolding judgeAt
+  judge-alike = ap₂ choiceOf (first-same _ _ n (λ i h. ap₂ _and_ (hs i h) (beats-alike i h))) (exists-same _ _ n hl)
+
+-- a named entry is one of n
+pub judged-lt : (entry : ℕ → Entry) (sure live : ℕ → Bool) (n i : ℕ) → judgeAt entry sure live n ≡ names i → i < n
+unfolding judgeAt
+judged-lt entry sure live n i e = first-some (λ i. sure i and beatsAt entry live n i) n i (choice-names _ _ i e) .0
+
+module _ (es : List Entry) where
+  -- an entry that beats: of another that passes it is more specific
+  beats-at : (q : Entry → Bool) (i j : ℕ) → beats es q i ≡ true → j < length es → eqb j i ≡ false → q (entryNumber es j) ≡ true
+      → moreSpecific (entryNumber es i) (entryNumber es j) ≡ true
+  unfolding beatsAt givesWay
+  beats-at q i j b h n t =
+      or-e (every-at (λ j. eqb j i or not (q (entryNumber es j)) or moreSpecific (entryNumber es i) (entryNumber es j)) (length es) b j h) (or-i n (not-if t))
+
+  module _ (p q r : Entry → Bool) (pr : (e : Entry) → p e ≡ true → r e ≡ true) (rq : (e : Entry) → r e ≡ true → q e ≡ true) where
+    beats-fewer : (i : ℕ) → beats es q i ≡ true → beats es r i ≡ true
+    unfolding beatsAt givesWay
+    beats-fewer i b =
+        every-make _ (length es)
+        (λ j h. cases (eqb j i)
+        (λ t. or-il _ (or-il _ t))
+        (λ t. cases (r (entryNumber es j))
+        (λ k. or-ir _ (beats-at q i j b h t (rq (entryNumber es j) k)))
+        (λ k. or-il _ (or-ir _ (not-it k)))))
+
+    only : (i j : ℕ) → i < length es → j < length es → r (entryNumber es i) and beats es r i ≡ true → r (entryNumber es j) and beats es r j ≡ true → j ≡ i
+    only i j hi hj s t =
+        cases (eqb j i) (eqb-true j i)
+        (λ n. absurd (not-mutual (entryNumber es i) (entryNumber es j) (beats-at r i j (and-r _ s) hj n (and-l _ t))
+        (beats-at r j i (and-r _ t) hi (ne-eqb i j (λ e. eqb-false j i n (sym e))) (and-l _ s))))
+
+    pub judge-names : (i : ℕ) → judge es p q ≡ names i → judge es r r ≡ names i
+    unfolding judge judgeAt
+    judge-names i e =
+        let s = first-some (λ i. p (entryNumber es i) and beats es q i) (length es) i (choice-names _ _ i e) in
+        let t : r (entryNumber es i) and beats es r i ≡ true = and-i (pr (entryNumber es i) (and-l _ (s .1))) (beats-fewer i (and-r _ (s .1))) in
+        rw (first-only (λ i. r (entryNumber es i) and beats es r i) (length es) i (s .0) t (λ j h k. only i j (s .0) h t k))
+
+    pub judge-nothing : judge es p q ≡ nothing → judge es r r ≡ nothing
+    unfolding judge judgeAt
+    judge-nothing e =
+        let x : exists (λ i. q (entryNumber es i)) (length es) ≡ false = choice-nothing (first (λ i. p (entryNumber es i) and beats es q i) (length es)) _ e in
+        let n : (i : ℕ) → i < length es → r (entryNumber es i) ≡ false
+        = λ i h. isFalse (λ t. clash (rq (entryNumber es i) t) (exists-none (λ i. q (entryNumber es i)) (length es) x i h)) in
+        let y : exists (λ i. r (entryNumber es i)) (length es) ≡ false = exists-no (λ i. r (entryNumber es i)) (length es) n in
+        let z : first (λ i. r (entryNumber es i) and beats es r i) (length es) ≡ none
+        = first-no (λ i. r (entryNumber es i) and beats es r i) (length es) (λ i h. isFalse (λ t. clash (and-l _ t) (n i h))) in
+        rw (z, y)
+
+  -- a named entry is one of the table
+  pub judge-lt : (p q : Entry → Bool) (i : ℕ) → judge es p q ≡ names i → i < length es
+  unfolding judge
+  judge-lt p q i e = judged-lt (entryNumber es) _ _ (length es) i e
+
+  pub judge-same : (p q r : Entry → Bool) → ((i : ℕ) → i < length es → p (entryNumber es i) ≡ r (entryNumber es i)) → ((i : ℕ) → i < length es → q (entryNumber es i) ≡ r (entryNumber es i))
+      → judge es p q ≡ judge es r r
+  unfolding judge
+  judge-same p q r f g = judge-alike (entryNumber es) (entryNumber es) _ _ _ _ (length es) (λ j h. refl) f g
