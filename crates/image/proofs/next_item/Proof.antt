@@ -47,7 +47,7 @@ use Rattle.table.specs.Check.{readTable}
 use Rattle.image.specs.Listing.{stepOf, saidStep}
 use Rattle.image.specs.declared.Cursor.{Cursor}
 use Rattle.image.specs.declared.Stepped.{Stepped}
-use Rattle.image.proofs.Calling.{asks, gets}
+use Rattle.image.proofs.Calling.{asks, gets, its}
 use Rattle.image.proofs.HalfwordAddress as N
 use Rattle.image.proofs.HalfwordAddress.Laws as N′
 use Rattle.image.proofs.Cursor as T
@@ -146,7 +146,7 @@ module _ {M : Type 1} (𝓤 : URA M) (H : Heap 𝓤) (A : Atoms 𝓤) (W : Given
         fsplit ! $ move ! (1 ∷ []) $ fsplit ! $ move ! (1 ∷ []) $ drop ! $
         -- [what at owns; image's; table's and tree's; what is kept; _5; …; the tokens]
         move ! (0 ∷ 2 ∷ []) $ fjoin ! $ move ! (15 ∷ 1 ∷ 0 ∷ []) $ asks ! $
-        calls-at ! fm (Work 𝓤 H A mem run) known to (and-then ! (load ! (from ! (stop !)) (look ! 4 refl)) (and-then ! (load ! (from ! (stop !)) (look ! 2 refl)) (and-then ! (load ! (from ! (stop !)) (look ! 8 refl)) (and-then ! (load ! (from ! (stop !)) (look ! 6 refl)) (no-more !))))) (λ u.
+        calls-at ! fm (Work 𝓤 H A mem run) known to (and-then ! (its ! 2 refl) (and-then ! (its ! 2 refl) (and-then ! (its ! 2 refl) (and-then ! (its ! 2 refl) (no-more !))))) (λ u.
         gets ! tt S.the-row toks (lasts work.ended κs (d .image, (d .at, (t, (p, tt))))) Said u (λ x e is. land ! (from ! (stop !)) (init ! 13 refl (EL.lawful S.the-type S′.the-laws 𝓤 H A W tt .typed x _ is .0)) $
         -- [the result; the tokens; what is kept; _5; …; _4; …; _3; …; _2; …; _1; …; room for _0; …]
         returns ! (look ! 13 refl) $ forget ! 3 refl $ forget ! 5 refl $ forget ! 7 refl $ forget ! 9 refl $ forget ! 11 refl $ forget ! 13 refl $

@@ -20,7 +20,7 @@ use contract.Monad.{Fun}
 use contract.Running.{givenOf, tables, tablesOf}
 use types.Kit.{Given, Item, ‵, _⊛_, _$_, _∵_, !, qed, move, use1, split, join, fsplit, fjoin, suffices, frame, done}
 use types.Part.{agg}
-use types.Run.{look, init, forget, stop, from, load, lit, and-then, no-more, assigns, land, returns, enter, alloc1, alloc0, params1, pass1, pass0, free1, free0}
+use types.Run.{look, init, forget, stop, from, lit, and-then, no-more, assigns, land, returns, enter, alloc1, alloc0, params1, pass1, pass0, free1, free0}
 use sound.WpLaws.{FmC, fmOf, WpFn-mono}
 use denote.RattleType.{RattleType, owns}
 use denote.Laws.{Is}
@@ -45,7 +45,7 @@ use Rattle.image.specs.Listing.{stepOf, saidStep}
 use Rattle.image.specs.declared.Cursor.{Cursor}
 use Rattle.image.specs.declared.Stepped.{Stepped}
 use Rattle.image.specs.declared.HalfwordAddress.{HalfwordAddress}
-use Rattle.image.proofs.Calling.{asks, gets}
+use Rattle.image.proofs.Calling.{asks, gets, its}
 use Rattle.image.proofs.HalfwordAddress as N
 use Rattle.image.proofs.HalfwordAddress.Laws as N′
 use Rattle.image.proofs.Cursor as T
@@ -165,22 +165,22 @@ module _ {M : Type 1} (𝓤 : URA M) (H : Heap 𝓤) (A : Atoms 𝓤) (W : Given
         pass1 ! (init ! 12 refl (shr-slice-lawful 𝓤 H A W (named 0) κ u32 .typed t (vt ∷ []) is-t .0)) $ pass1 ! (init ! 10 refl (shr-slice-lawful 𝓤 H A W (named 1) κ′ u32 .typed p (vp ∷ []) is-p .0)) $
         pass1 ! (init ! 8 refl (shr-slice-lawful 𝓤 H A W (named 2) κ″ u8 .typed s (v ∷ []) is-s .0)) $ pass1 ! (init ! 6 refl (LL.lawful N.the-type N′.the-laws 𝓤 H A W .typed n _ isn .0)) $ pass0 ! $
         -- [room for _7; …; _6; …; _5; …; _4; …; _3; …; _2; …; _1; …; room for _0; …; the tokens; what is kept]
-        assigns ! (agg ! (and-then ! (lit ! tt) (no-more !))) (from ! (stop !)) (init ! 0 refl (LL.lawful N.the-type N′.the-laws 𝓤 H A W .typed start _ is-start .0)) $
+        assigns ! (agg ! (and-then ! (lit ! tt) (no-more !))) (from ! (stop !)) (init ! 4 refl (LL.lawful N.the-type N′.the-laws 𝓤 H A W .typed start _ is-start .0)) $
         move ! (17 ∷ []) $ use1 W (‵ Kept ⊛ ‵ Kept) twice $ split ! $ fsplit ! $ move ! (1 ∷ []) $ fsplit ! $ move ! (1 ∷ []) $ fsplit ! $
         -- [what image owns; at's; tree's; table's; what is kept; _7; …]
         nothing ! $ move ! (3 ∷ 0 ∷ []) $ fjoin ! $ move ! (3 ∷ 0 ∷ []) $ fjoin ! $ move ! (20 ∷ []) $ split ! $ move ! (1 ∷ []) $ split ! $
         -- [the tree's token; the image's; the table's; what table and tree own; image's; at's; what is kept; _7; …]
         nothing ! $ owned ! N.the-row (Is N.the-row) (LL.makes N.the-type N′.the-plain 𝓤 H A) start _ is-start $ fjoin ! $ move ! (2 ∷ 5 ∷ 0 ∷ []) $ asks ! $
         -- [what is asked; the tree's token; the table's; what table and tree own; at's; what is kept; _7; …]
-        calls-at ! fm (New 𝓤 H A mem run) known-new to-new (and-then ! (load ! (from ! (stop !)) (look ! 14 refl)) (and-then ! (load ! (from ! (stop !)) (look ! 6 refl)) (no-more !))) (λ u.
-        gets ! tt (B κc) tok (lasts new.ended (κ″, tt) (s, (start, tt))) (At s start) u (λ d e is. land ! (from ! (stop !)) (init ! 9 refl (typed d u is)) $
+        calls-at ! fm (New 𝓤 H A mem run) known-new to-new (and-then ! (its ! 6 refl) (and-then ! (its ! 6 refl) (no-more !))) (λ u.
+        gets ! tt (B κc) tok (lasts new.ended (κ″, tt) (s, (start, tt))) (At s start) u (λ d e is. land ! (from ! (stop !)) (init ! 7 refl (typed d u is)) $
         -- [what the struct owns; the image's token; the tree's; the table's; what table and tree own; at's; what is kept; _7; …]
         move ! (1 ∷ 0 ∷ 5 ∷ []) $ asks ! $
-        calls-at ! fm (Moved 𝓤 H A mem run) known-moved (to-moved d u) (and-then ! (load ! (from ! (stop !)) (look ! 7 refl)) (and-then ! (load ! (from ! (stop !)) (look ! 11 refl)) (no-more !))) (λ u′.
-        gets ! tt (B κc) tok (lasts moved.ended (κ″, tt) (d, (n, tt))) (At (d .image) n) u′ (λ d′ e′ is′. land ! (from ! (stop !)) (init ! 10 refl (typed d′ u′ is′)) $
+        calls-at ! fm (Moved 𝓤 H A mem run) known-moved (to-moved d u) (and-then ! (its ! 5 refl) (and-then ! (its ! 5 refl) (no-more !))) (λ u′.
+        gets ! tt (B κc) tok (lasts moved.ended (κ″, tt) (d, (n, tt))) (At (d .image) n) u′ (λ d′ e′ is′. land ! (from ! (stop !)) (init ! 8 refl (typed d′ u′ is′)) $
         -- [what the struct owns; the image's token; the tree's; the table's; what table and tree own; what is kept; _7; …]
         move ! (1 ∷ []) $ split ! $ move ! (3 ∷ 1 ∷ []) $ join ! $ move ! (3 ∷ 0 ∷ []) $ join ! $ move ! (1 ∷ 0 ∷ []) $ join ! $ asks ! $
-        calls-at ! fm (Next 𝓤 H A mem run) known-next (to-next d′ u′) (and-then ! (load ! (from ! (stop !)) (look ! 6 refl)) (and-then ! (load ! (from ! (stop !)) (look ! 14 refl)) (and-then ! (load ! (from ! (stop !)) (look ! 12 refl)) (no-more !)))) (λ u″.
+        calls-at ! fm (Next 𝓤 H A mem run) known-next (to-next d′ u′) (and-then ! (its ! 2 refl) (and-then ! (its ! 2 refl) (and-then ! (its ! 2 refl) (no-more !)))) (λ u″.
         gets ! tt S.the-row toks (lasts next.ended κc (d′, (t, (p, tt)))) (Said d′) u″ (λ x e″ is″. land ! (from ! (stop !)) (init ! 17 refl (EL.lawful S.the-type S′.the-laws 𝓤 H A W tt .typed x _ is″ .0)) $
         -- [the result; the tokens; what is kept; _7; …]
         returns ! (look ! 17 refl) $ forget ! 3 refl $ forget ! 5 refl $ forget ! 7 refl $ forget ! 9 refl $ forget ! 11 refl $ forget ! 13 refl $ forget ! 15 refl $ forget ! 17 refl $
