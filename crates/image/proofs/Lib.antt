@@ -3,4 +3,5 @@ pub mod Filling
 pub mod Picking
 pub mod Admitting
 pub mod Cases
+pub mod Calling
 pub mod Examples

@@ -197,5 +197,6 @@ pub fn next_item<'a, 'b, 'c>(c: Cursor<'a>, table: &'b [u32], tree: &'c [u32]) -
 pub fn step(table: &[u32], tree: &[u32], image: &[u8], at: HalfwordAddress) -> Stepped
     ensures { λ r. ⌜ saidStep r ≡ stepOf (readTable (now (table .entry))) (now (tree .entry)) (now (image .entry)) at ⌝ }
 {
-    next_item(cursor_at(image, at), table, tree)
+    let start = HalfwordAddress(0);
+    next_item(moved(cursor_at(image, start), at), table, tree)
 }
