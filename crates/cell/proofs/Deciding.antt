@@ -60,7 +60,11 @@ module _ (entry : ℕ → Entry) (isOpen : ℕ → Bool) (n width : ℕ) (c : Ce
 
   wanted-by : (m i : ℕ) → bit m i ≡ inSome entry isOpen n c i → unfixedIn m (c .fixed) i ≡ wantedAt entry isOpen n c i
   unfolding unfixedIn inSome wantedAt _and_
-  wanted-by m i e = rw e (cases (bit (c .fixed) i) (λ t. rw t) (λ t. rw t))
+  wanted-by m i e =
+      rw e
+      (cases (bit (c .fixed) i)
+      (λ t. rw t (cases (exists (λ j. isOpen j and inOpen c i (entry j)) n) (λ x. rw x) (λ x. rw x)))
+      (λ t. rw t (cases (exists (λ j. isOpen j and inOpen c i (entry j)) n) (λ x. rw x) (λ x. rw x))))
 
   pub by-wanted : (m d : ℕ) → r .weight ≤ 0 → ((i : ℕ) → bit m i ≡ inSome entry isOpen n c i) → d ≡ best (unfixedIn m (c .fixed)) width → d ≡ testedAt entry isOpen n width c
   unfolding testedAt

@@ -105,13 +105,13 @@ from-less P i n h f p j k l =
 module _ (mask fixed i : ℕ) where
   pub unfixed-le : unfixedIn mask fixed i ≤ 1
   unfolding unfixedIn
-  unfixed-le = cases (not (bit fixed i) and bit mask i) (λ t. rw t (omega arith)) (λ t. rw t (omega arith))
+  unfixed-le = cases (bit mask i and not (bit fixed i)) (λ t. rw t (omega arith)) (λ t. rw t (omega arith))
 
-  pub unfixed-yes : not (bit fixed i) and bit mask i ≡ true → unfixedIn mask fixed i ≡ 1
+  pub unfixed-yes : bit mask i and not (bit fixed i) ≡ true → unfixedIn mask fixed i ≡ 1
   unfolding unfixedIn
   unfixed-yes t = rw t
 
-  pub unfixed-no : not (bit fixed i) and bit mask i ≡ false → unfixedIn mask fixed i ≡ 0
+  pub unfixed-no : bit mask i and not (bit fixed i) ≡ false → unfixedIn mask fixed i ≡ 0
   unfolding unfixedIn
   unfixed-no t = rw t
 

@@ -50,4 +50,4 @@ inSome entry isOpen n c i = exists (λ j. isOpen j and inOpen c i (entry j)) n
 
 -- 1 if the unfixed bit i is in the mask
 unfoldable pub unfixedIn : ℕ → ℕ → ℕ → ℕ
-unfixedIn mask fixed i = cond (not (bit fixed i) and bit mask i) 1 0
+unfixedIn mask fixed i = cond (bit mask i and not (bit fixed i)) 1 0

@@ -199,12 +199,12 @@ fn all_bits(
 // Whether bit i is unfixed and in the mask.
 fn is_unfixed(mask: u32, fixed: u32, i: u32) -> bool
     requires { ⌜ i < 32 ⌝ }
-    ensures { λ r. ⌜ r ≡ not (bit fixed i) and bit mask i ⌝ }
+    ensures { λ r. ⌜ r ≡ bit mask i and not (bit fixed i) ⌝ }
 {
-    if (fixed >> i) & 1 == 1 {
+    if (mask >> i) & 1 != 1 {
         return false;
     }
-    (mask >> i) & 1 == 1
+    (fixed >> i) & 1 != 1
 }
 
 // The highest unfixed bit of a mask below the width; the last bit below the width if there is none.

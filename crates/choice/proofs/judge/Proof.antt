@@ -25,7 +25,7 @@ returns-2 : tie.Need-returns-2
 returns-2 c = rw (← c .before .before .before .before .before .lesser .ensures) (leader-open _ (c .before .before .before .before .before .before .before .args .s .now) _ _ (c .before .before .leader .ensures) (ne-eqb _ _ (c .if2 .taken)))
 
 beats-requires : tie.Need-beats-requires
-beats-requires c κs = (search needs, c .before .before .leader .ensures .bound)
+beats-requires c κs = let b = c .before .before .leader .ensures .bound in (search needs, omega arith)
 
 returns-3 : tie.Need-returns-3
 returns-3 c = rw (← c .before .before .before .before .before .before .before .lesser .ensures) (leader-wins _ (c .before .before .before .before .before .before .before .before .before .args .s .now) _ _ (c .before .before .before .before .leader .ensures) (eq-eqb _ _ (c .before .before .if2 .left)) (sym (c .before .beats .ensures) ∙ c .if3 .taken))

@@ -1,4 +1,5 @@
-use mathlib.Core.Path.{sym, _∙_}
+use mathlib.Core.Bool.{not}
+use mathlib.Core.Path.{sym, ap, _∙_}
 use Rattle.words.proofs.Parts.{bit-shr}
 use Rattle.words.specs.Tests.{_and_}
 use borrow.Author.Tests.{eq-eqb, ne-eqb}
@@ -11,14 +12,14 @@ shr-if1 c = search needs
 
 returns : tie.Need-returns
 unfolding _and_
-returns c = simp (sym (bit-shr (c .before .args .fixed) (c .before .args .i)) ∙ eq-eqb _ _ (c .if1 .taken))
+returns c = simp (sym (bit-shr (c .before .args .mask) (c .before .args .i)) ∙ ne-eqb _ _ (c .if1 .taken))
 
 shr-result : tie.Need-shr-result
 shr-result c = search needs
 
 returns-2 : tie.Need-returns-2
 unfolding _and_
-returns-2 c = simp (sym (bit-shr (c .before .args .fixed) (c .before .args .i)) ∙ ne-eqb _ _ (c .if1 .left)) (bit-shr (c .before .args .mask) (c .before .args .i))
+returns-2 c = simp (sym (bit-shr (c .before .args .mask) (c .before .args .i)) ∙ eq-eqb _ _ (c .if1 .left)) (ap not (bit-shr (c .before .args .fixed) (c .before .args .i)))
 
 pub is-unfixed-spec : {M : Type 1} → statement M
 is-unfixed-spec = tie.close (tie.spec shr-if1 returns shr-result returns-2)
