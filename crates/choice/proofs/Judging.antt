@@ -46,6 +46,12 @@ choice-ambiguous (some j) b e = absurd (let z : _≡_ {A = ℕ} 0 1 = cc in omeg
 choice-ambiguous none true e = (refl, refl)
 choice-ambiguous none false e = absurd (let z : _≡_ {A = ℕ} 0 1 = cc in omega arith)
 
+-- an entry that beats all others is more specific than another live one
+pub over : (entry : ℕ → Entry) (live : ℕ → Bool) (n i j : ℕ) → beatsAt entry live n i ≡ true → j < n → (j ≡ i → ⊥) → live j ≡ true
+    → moreSpecific (entry i) (entry j) ≡ true
+unfolding beatsAt givesWay
+over entry live n i j b h d l = or-e (every-at _ n b j h) (or-i (ne-eqb j i d) (not-if l))
+
 -- entries and tests that agree below n are judged the same
 module _ (e f : ℕ → Entry) (s t l m : ℕ → Bool) (n : ℕ) (he : (j : ℕ) → j < n → e j ≡ f j) (hs : (j : ℕ) → j < n → s j ≡ t j) (hl : (j : ℕ) → j < n → l j ≡ m j) where
   beats-alike : (i : ℕ) → i < n → beatsAt e l n i ≡ beatsAt f m n i
@@ -62,13 +68,6 @@ unfolding judgeAt
 judged-lt entry sure live n i e = first-some (λ i. sure i and beatsAt entry live n i) n i (choice-names _ _ i e) .0
 
 module _ (es : List Entry) where
-  -- an entry that beats: of another that passes it is more specific
-  beats-at : (q : Entry → Bool) (i j : ℕ) → beats es q i ≡ true → j < length es → eqb j i ≡ false → q (entryNumber es j) ≡ true
-      → moreSpecific (entryNumber es i) (entryNumber es j) ≡ true
-  unfolding beatsAt givesWay
-  beats-at q i j b h n t =
-      or-e (every-at (λ j. eqb j i or not (q (entryNumber es j)) or moreSpecific (entryNumber es i) (entryNumber es j)) (length es) b j h) (or-i n (not-if t))
-
   module _ (p q r : Entry → Bool) (pr : (e : Entry) → p e ≡ true → r e ≡ true) (rq : (e : Entry) → r e ≡ true → q e ≡ true) where
     beats-fewer : (i : ℕ) → beats es q i ≡ true → beats es r i ≡ true
     unfolding beatsAt givesWay
@@ -77,14 +76,14 @@ module _ (es : List Entry) where
         (λ j h. cases (eqb j i)
         (λ t. or-il _ (or-il _ t))
         (λ t. cases (r (entryNumber es j))
-        (λ k. or-ir _ (beats-at q i j b h t (rq (entryNumber es j) k)))
+        (λ k. or-ir _ (over (entryNumber es) (λ k. q (entryNumber es k)) (length es) i j b h (eqb-false j i t) (rq (entryNumber es j) k)))
         (λ k. or-il _ (or-ir _ (not-it k)))))
 
     only : (i j : ℕ) → i < length es → j < length es → r (entryNumber es i) and beats es r i ≡ true → r (entryNumber es j) and beats es r j ≡ true → j ≡ i
     only i j hi hj s t =
         cases (eqb j i) (eqb-true j i)
-        (λ n. absurd (not-mutual (entryNumber es i) (entryNumber es j) (beats-at r i j (and-r _ s) hj n (and-l _ t))
-        (beats-at r j i (and-r _ t) hi (ne-eqb i j (λ e. eqb-false j i n (sym e))) (and-l _ s))))
+        (λ n. let d = eqb-false j i n in
+        absurd (not-mutual _ _ (over (entryNumber es) _ (length es) i j (and-r _ s) hj d (and-l _ t)) (over (entryNumber es) _ (length es) j i (and-r _ t) hi (λ e. d (sym e)) (and-l _ s))))
 
     pub judge-names : (i : ℕ) → judge es p q ≡ names i → judge es r r ≡ names i
     unfolding judge judgeAt

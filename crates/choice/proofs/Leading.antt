@@ -11,12 +11,12 @@ use borrow.Author.Count.{below-more}
 use borrow.Author.Tests.{eqb-true, eq-eqb, ne-eqb}
 use Rattle.words.specs.Tests.{_and_, _or_}
 use Rattle.words.specs.Words.{includes}
-use Rattle.words.proofs.Logic.{clash, isFalse, and-l, and-r, and-i, every-at, exists-make, exists-no, first-only, first-no}
+use Rattle.words.proofs.Logic.{clash, isFalse, and-l, and-r, and-i, exists-make, exists-no, first-only, first-no}
 use Rattle.table.specs.Table.{Entry}
 use Rattle.choice.specs.Rule.{names, nothing, ambiguous, matches, moreSpecific, givesWay, beatsAt, judgeAt}
 use Rattle.choice.specs.Status.{sureIn, liveIn}
 use Rattle.choice.specs.Judged.{FirstLive, Leads}
-use Rattle.choice.proofs.Judging.{not-mutual}
+use Rattle.choice.proofs.Judging.{not-mutual, over}
 
 -- ---- a status as the code tests it
 pub not-dead : (x : ℕ) → (x ≡ 0 → ⊥) → not (eqb x 0) ≡ true
@@ -53,18 +53,8 @@ module _ (entry : ℕ → Entry) (live : ℕ → Bool) (i j : ℕ) where
   unfolding givesWay _or_
   way-less h l r t = rw (ne-eqb j i h, l) t
 
-  -- a live entry that gives way is less specific
-  way-specific : (j ≡ i → ⊥) → live j ≡ true → givesWay entry live i j ≡ true → moreSpecific (entry i) (entry j) ≡ true
-  unfolding givesWay _or_
-  way-specific h l t = rw (ne-eqb j i h, l) at t
-
 -- ---- the leader
 module _ (entry : ℕ → Entry) (live : ℕ → Bool) (n : ℕ) where
-  -- an entry that beats all others is more specific than another live one
-  over : (i j : ℕ) → j < n → (j ≡ i → ⊥) → live j ≡ true → beatsAt entry live n i ≡ true → moreSpecific (entry i) (entry j) ≡ true
-  unfolding beatsAt
-  over i j h d l b = way-specific entry live i j d l (every-at _ n b j h)
-
   -- what holds of the leader among the first k: it is one of them, is live, and no other live one of them beats all others
   pub record Ahead (k r : ℕ) : Type 0 where
     pub below : r < k
@@ -97,7 +87,7 @@ module _ (entry : ℕ → Entry) (live : ℕ → Bool) (n : ℕ) where
           here = a .here;
           only =
               below-more (λ (j : ℕ). live j ≡ true → beatsAt entry live n j ≡ true → j ≡ r) k (a .only)
-              (λ t b. let c = a .below in clash (over k r (omega arith) (λ e. omega arith) (a .here) b) f);
+              (λ t b. let c = a .below in clash (over entry live n k r b (omega arith) (λ e. omega arith) (a .here)) f);
         }
 
     -- entry k is: it leads, for one before it that beats all others would be the old leader, and more specific than k
@@ -108,7 +98,7 @@ module _ (entry : ℕ → Entry) (live : ℕ → Bool) (n : ℕ) where
           here = l;
           only =
               below-more (λ (j : ℕ). live j ≡ true → beatsAt entry live n j ≡ true → j ≡ k) k
-              (λ j c t b. let q : j ≡ r = a .only j c t b in absurd (not-mutual _ _ m (rw q at (over j k h (λ e. omega arith) l b))))
+              (λ j c t b. let q : j ≡ r = a .only j c t b in absurd (not-mutual _ _ m (rw q at (over entry live n j k b h (λ e. omega arith) l))))
               (λ t b. refl);
         }
 
