@@ -57,8 +57,9 @@ static inline uint32_t kilnumber_place(uint64_t result) { return (uint32_t)(resu
 
 /* ------------------------------------------------------------------------------------------------------------- the check */
 
-/* Checks a tree against its table: 0 if every word of the width walks to what the table selects. Call it once for a tree that comes
- * from a file: a walk of an unfit tree that is well formed names wrong entries, and only the check tells. Refusals: 1 to 4, 14. */
+/* Checks a tree against its table. After 0 every word of the width walks to what the table selects; each tree that generating writes
+ * gets 0. Call it once for a tree that comes from a file: a walk of an unfit tree that is well formed names wrong entries, and only the
+ * check tells. Refusals: 1 to 4, 14. */
 uint64_t kilnumber_check(const uint32_t *table, size_t table_words, const uint32_t *tree, size_t tree_words);
 
 /* ------------------------------------------------------------------------------------------------------------- the listing */
