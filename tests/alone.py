@@ -3,7 +3,7 @@
 Usage: alone.py. Prints every place that it finds, and then exits with status 1.
 
 To extend the list of words, add a line to WORDS: the words as a regular expression (case does not matter), and an
-example that it finds. PAGE_WORDS are looked for in pages (..md) only, since code may use them otherwise.
+example that it finds.
 """
 
 import fnmatch
@@ -19,17 +19,10 @@ WORDS = [
     (r"\bissues?\b", "as issue 7 asks"),
     (r"\bsessions?\b", "on the session's machine"),
     (r"\bworkplace\b", "in our workplace"),
-    (r"\b(sub)?agents?\b", "an agent's clone"),
-    (r"\bprompts?\b", "the prompt says"),
     (r"\bcommit [0-9a-f]{7,}\b", "see commit 0123abc"),
     (r"\bshared/", "shared/01-scope.md"),
     (r"(?<![\w.$}/-])/(work|home|root|tmp|opt|mnt)\b", "it lies in /work/main"),
     (r"\bdocument 90\b", "as document 90 advises"),
-]
-
-PAGE_WORDS = [
-    (r"\bhelpers?\b", "a helper wrote it"),
-    (r"\bscratch\b", "a scratch run"),
 ]
 
 # Folders of the repository. In a page, `folder/..` must be there; * and ** stand for any name.
@@ -86,8 +79,7 @@ def spread(path):
 
 def faults(path, number, line, names, inside):
     where = f"{path}:{number}"
-    listed = WORDS + PAGE_WORDS if path.suffix == ".md" else WORDS
-    found = [f"{where}: the words {word!r}" for word in words_in(line, listed)]
+    found = [f"{where}: the words {word!r}" for word in words_in(line, WORDS)]
     found += [f"{where}: there is no page {name}" for name in pages_in(line, names)]
     if path.suffix == ".md":
         found += [f"{where}: the link to {target} leads nowhere" for target in links_in(path, line)]
@@ -97,7 +89,7 @@ def faults(path, number, line, names, inside):
 
 def check_list():
     """Each expression of the list finds its example, and a page's faults are found."""
-    for words, example in WORDS + PAGE_WORDS:
+    for words, example in WORDS:
         if not words_in(example, [(words, example)]):
             sys.exit(f"alone.py: {words} does not find {example!r}")
     page = Path("docs/PAGE.md")
@@ -123,7 +115,7 @@ def main():
         sys.exit(f"alone.py: only {looked} files were looked at")
     if found:
         sys.exit("\n".join(found))
-    print(f"alone good: {looked} files, {lines} lines, {len(WORDS) + len(PAGE_WORDS)} expressions")
+    print(f"alone good: {looked} files, {lines} lines, {len(WORDS)} expressions")
 
 
 main()
