@@ -17,7 +17,7 @@ use Rattle.table.specs.Table.{Pattern, Condition, Entry, entryNumber}
 use Rattle.choice.specs.Rule.{Choice, names, nothing, ambiguous, matches, judge}
 use Rattle.selection.specs.Selection.{satisfied, claims}
 use Rattle.cell.specs.Cell.{Cell, zeroSide, oneSide, implies, clashes, holds, fails, openCondition, dead, live, sure, openEntry}
-use Rattle.cell.specs.Step.{end, split, stepOf, free, votesAt, votes, inCondition, inOpen, wantedAt, wanted, testedAt, tested, settledAt, stepAt, step}
+use Rattle.cell.specs.Step.{end, split, stepOf, free, votesAt, inCondition, inOpen, wantedAt, testedAt, settledAt, stepAt, step}
 use Rattle.words.proofs.Bits.{and-assoc, and-or, and-pow, missing, bit-or, bit-pow, bit-pow-other}
 use Rattle.words.proofs.Logic.{cases, clash, isFalse, and-l, and-r, and-i, and-e, or-l, or-r, or-il, or-ir, or-e, not-t, not-f, not-it, not-if, anyOf-map, allOf-none, exists-at, exists-make, howMany-pos, best-max, best-lt, howMany-less}
 
@@ -133,6 +133,15 @@ module _ (width : ℕ) (c : Cell) where
       (λ t. inl (unsettled (e .opcode) (and-l _ g) t (or-l _ (not-t (and-l _ o)))))
 
 -- ---- the tested bit is unfixed
+
+abbrev votes : List Entry → Cell → ℕ → ℕ
+votes es c i = votesAt (entryNumber es) (λ j. openEntry c (entryNumber es j)) (length es) (c .fixed) i
+
+abbrev wanted : List Entry → Cell → ℕ → ℕ
+wanted es c i = wantedAt (entryNumber es) (λ j. openEntry c (entryNumber es j)) (length es) c i
+
+abbrev tested : List Entry → ℕ → Cell → ℕ
+tested es width c = testedAt (entryNumber es) (λ j. openEntry c (entryNumber es j)) (length es) width c
 
 all-at : {A : Type 0} (p : A → Bool) (l : List A) (d : A) → allOf p l ≡ true → (j : ℕ) → j < length l → p (getD l j d) ≡ true
 unfolding allOf

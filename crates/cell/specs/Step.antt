@@ -63,16 +63,6 @@ unfoldable pub stepAt : (ℕ → Entry) → ℕ → ℕ → Cell → Step
 stepAt entry n width c =
     stepOf (settledAt entry n c) (exists (λ j. openEntry c (entry j)) n) (testedAt entry (λ j. openEntry c (entry j)) n width c)
 
--- ---- the entries of a table
-
-abbrev pub votes : List Entry → Cell → ℕ → ℕ
-votes es c i = votesAt (entryNumber es) (λ j. openEntry c (entryNumber es j)) (length es) (c .fixed) i
-
-abbrev pub wanted : List Entry → Cell → ℕ → ℕ
-wanted es c i = wantedAt (entryNumber es) (λ j. openEntry c (entryNumber es j)) (length es) c i
-
-abbrev pub tested : List Entry → ℕ → Cell → ℕ
-tested es width c = testedAt (entryNumber es) (λ j. openEntry c (entryNumber es j)) (length es) width c
-
+-- of the entries of a table
 unfoldable pub step : List Entry → ℕ → Cell → Step
 step es width c = stepAt (entryNumber es) (length es) width c
