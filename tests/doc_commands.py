@@ -148,7 +148,7 @@ def check(probe_path, mktree_path):
     counts |= {page: compare(page, probe_path, mktree_path) for page in PAGES}
     probe.require_enough(counts, LEAST)
     commands_of = ", ".join(f"{counts[page]} in docs/{page}" for page in PAGES)
-    return f"doc_commands good: commands: {commands_of}; of docs/ARCHITECTURE.md {counts['crates']} crates, {counts['theorems']} theorems"
+    return f"doc_commands good: commands: {commands_of}; of docs/ARCHITECTURE.md {counts['crates']} crates, of docs/TRUSTED.md {counts['theorems']} theorems"
 
 
 def main():
