@@ -59,12 +59,12 @@ fn main() {
     // one byte more, to see that there is more
     let mut bytes = [0u8; MOST_BYTES + 1];
     let got = io::read_full(STDIN_FILENO, &mut bytes);
+    let mut space = [0u32; MOST_WORDS];
     if !words::is_table(&bytes[..got]) {
-        // bytes that cannot be a table have no header
-        print_refusal(Cause::of(1, 0, 0));
+        // bytes that can't be a table are refused as one without words is
+        print_tree_of(&space[..0]);
         return;
     }
-    let mut space = [0u32; MOST_WORDS];
     let n = words::words_of(&bytes[..got], &mut space);
     print_tree_of(&space[..n]);
 }

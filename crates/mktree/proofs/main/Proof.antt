@@ -21,11 +21,14 @@ slice-aggregate-is-table c = search needs
 is-table-requires : tie.Need-is-table-requires
 is-table-requires c κs = search needs
 
-of-requires : tie.Need-of-requires
-of-requires c κs = search needs
+array-share-prefix-space : tie.Need-array-share-prefix-space
+array-share-prefix-space c = search needs
 
-print-refusal-requires : tie.Need-print-refusal-requires
-print-refusal-requires c κs = search needs
+slice-aggregate-print-tree-of : tie.Need-slice-aggregate-print-tree-of
+slice-aggregate-print-tree-of c = search needs
+
+print-tree-of-requires : tie.Need-print-tree-of-requires
+print-tree-of-requires c κs = search needs
 
 returns : tie.Need-returns
 returns c = search needs
@@ -42,14 +45,14 @@ slice-aggregate-words-of-2 c = search needs
 words-of-requires : tie.Need-words-of-requires
 words-of-requires c κs = search needs
 
-array-share-prefix-space : tie.Need-array-share-prefix-space
-array-share-prefix-space c = fills-within (c .before .words-of .ensures)
+array-share-prefix-space-2 : tie.Need-array-share-prefix-space-2
+array-share-prefix-space-2 c = fills-within (c .before .words-of .ensures)
 
-slice-aggregate-print-tree-of : tie.Need-slice-aggregate-print-tree-of
-slice-aggregate-print-tree-of c = sym (length-take-le _ _ (fills-within (c .before .before .words-of .ensures)))
+slice-aggregate-print-tree-of-2 : tie.Need-slice-aggregate-print-tree-of-2
+slice-aggregate-print-tree-of-2 c = sym (length-take-le _ _ (fills-within (c .before .before .words-of .ensures)))
 
-print-tree-of-requires : tie.Need-print-tree-of-requires
-print-tree-of-requires c κs = search needs
+print-tree-of-requires-2 : tie.Need-print-tree-of-requires-2
+print-tree-of-requires-2 c κs = search needs
 
 returns-2 : tie.Need-returns-2
 returns-2 c = search needs
@@ -63,14 +66,15 @@ main-spec =
     array-share-prefix-bytes
     slice-aggregate-is-table
     is-table-requires
-    of-requires
-    print-refusal-requires
+    array-share-prefix-space
+    slice-aggregate-print-tree-of
+    print-tree-of-requires
     returns
     array-share-prefix-bytes-2
     slice-aggregate-words-of
     slice-aggregate-words-of-2
     words-of-requires
-    array-share-prefix-space
-    slice-aggregate-print-tree-of
-    print-tree-of-requires
+    array-share-prefix-space-2
+    slice-aggregate-print-tree-of-2
+    print-tree-of-requires-2
     returns-2)
