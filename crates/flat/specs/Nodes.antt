@@ -22,12 +22,12 @@ unfoldable pub headerOf : ℕ → ℕ → Header
 headerOf x words = cond (eqb (bits 31 28 x) 7 and eqb (bits 27 22 x) 0) (headerRest (bits 21 16 x) (bits 15 0 x) words) Bad
 
 -- a tree's width and its number of nodes
-pub record Shape : Type 0 where
+pub record TreeShape : Type 0 where
   pub width : ℕ
   pub nodes : ℕ
 
 -- the paper's number and values for each case of a header
-abbrev pub saidHeader : Header → Outcome Shape
+abbrev pub saidHeader : Header → Outcome TreeShape
 saidHeader Bad = refused 8 0 0
 saidHeader (Good width n) = result (record { width = width; nodes = n })
 
