@@ -30,29 +30,38 @@ fn excluded(ws: &[u32], n: u32, p: usize, word: u32) -> bool
     requires { ⌜ (n < 16) × (p < 2 ^ 40) ⌝ }
     ensures { λ r. ⌜ r ≡ anyOf (satisfied word) (conditionsAt (now (ws .entry)) n p) ⌝ }
 {
-    let mut left = n;
-    let mut at = p;
-    'search: while 0 < left {
-        let count = words::part(words::word_at(ws, at), 0, 4);
-        let first = at + 3;
-        if matches(ws, at + 1, word) {
-            let mut more = count;
-            let mut q = first;
+    // Equation 2 of document 001, s being the word: ⋁ over (p_m, P_u) ∈ C_e of (s ∈ p_m ∧ ⋀ over p_u ∈ P_u of s ∉ p_u).
+    // C_e: how many conditions are left, and where the first of them stands.
+    let mut conditions = n;
+    let mut condition = p;
+    // The "or" over C_e, each condition being a pair (p_m, P_u).
+    'search: while 0 < conditions {
+        // s ∈ p_m, asked before anything else of the condition.
+        let matched = matches(ws, condition + 1, word);
+        // P_u: how many unmatching patterns are left, and where the first of them stands.
+        let mut unmatchings = words::part(words::word_at(ws, condition), 0, 4);
+        let mut unmatching = condition + 3;
+        if matched {
+            // The "and" over P_u.
             loop {
-                if more < 1 {
+                // s ∉ p_u for every p_u: the condition is satisfied, and with it the "or".
+                if unmatchings < 1 {
                     break 'search;
                 }
-                if matches(ws, q + 1, word) {
+                // s ∈ p_u: the condition is not satisfied.
+                if matches(ws, unmatching + 1, word) {
                     break;
                 }
-                more -= 1;
-                q += 3;
+                unmatchings -= 1;
+                unmatching += 3;
             }
         }
-        at = first + 3 * count as usize;
-        left -= 1;
+        // The next condition stands after the unmatching patterns of this one.
+        condition = unmatching + 3 * unmatchings as usize;
+        conditions -= 1;
     }
-    0 < left
+    // The "or" holds if the search was left before the conditions ran out.
+    0 < conditions
 }
 
 // Whether the entry at p claims a word.
