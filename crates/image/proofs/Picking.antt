@@ -14,7 +14,8 @@ use Rattle.table.proofs.Views.{ready-at, ready-place, ready-short}
 use Rattle.choice.specs.Rule.{names}
 use Rattle.selection.specs.Selection.{select}
 use Rattle.selection.proofs.Formula.{names-exactly, nothing-exactly}
-use Rattle.tree.specs.Walk.{Walk, named, walkOf}
+use Rattle.flat.specs.Walk.{Walk, walkOf}
+use Rattle.tree.specs.Tree.{named}
 use Rattle.tree.proofs.Demand.{Right}
 use Rattle.tree.proofs.Accepting.{accepted, accepted-right}
 use Rattle.walker.specs.Walked.{said, Small}

@@ -6,7 +6,7 @@ use Rattle.words.specs.Words.{part, bit}
 use Rattle.words.specs.Tests.{_and_}
 use Rattle.words.specs.Bytes.{wordOf, wordsOf}
 use Rattle.flat.specs.Nodes.{headerRest, headerOf, testNode, namesNode, nothingNode, nodeOf}
-use Rattle.tree.specs.Walk.{path, enters, walkOf}
+use Rattle.flat.specs.Walk.{path, enters, walkOf}
 use Rattle.walker.specs.Walked.{walkBytes}
 use Rattle.words.specs.Outcome.{faulty, refused}
 use Rattle.kilnumber.specs.Packed.{packed, packedCheck}

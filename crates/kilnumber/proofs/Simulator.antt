@@ -10,9 +10,9 @@ use Rattle.words.specs.Outcome.{Outcome, result}
 use Rattle.table.specs.Table.{Entry, Table}
 use Rattle.table.specs.Check.{readTable}
 use Rattle.selection.specs.Selection.{select}
-use Rattle.tree.specs.Tree.{tree, size}
+use Rattle.tree.specs.Tree.{tree, size, named}
 use Rattle.tree.specs.Generate.{generateOf, bufferOf}
-use Rattle.tree.specs.Walk.{Walk, named, walkOf}
+use Rattle.flat.specs.Walk.{Walk, walkOf}
 use Rattle.tree.proofs.Demand.{Right, walk-right}
 use Rattle.walker.specs.Walked.{walkBytes}
 use Rattle.walker.proofs.Headers.{whole-bytes}

@@ -6,7 +6,7 @@ use mathlib.Core.Option.{Option, none, some}
 use lib.ListN.{length}
 use Rattle.words.specs.Outcome.{Outcome, result, faulty, refused}
 use Rattle.table.specs.Check.{readTable}
-use Rattle.tree.specs.Walk.{Walk}
+use Rattle.flat.specs.Walk.{Walk}
 use Rattle.image.specs.Listing.{listOf, bufferOf}
 
 -- "entry in 7–0, bit 8 for nothing"

@@ -34,9 +34,9 @@ use Rattle.flat.specs.declared.Node.{Node}
 use Rattle.flat.specs.declared.Node.the-variants.{Damaged, Asks, Names, Nothing}
 use Rattle.cell.specs.Cell.{Cell, start, zeroSide, oneSide, live, sure}
 use Rattle.cell.specs.Step.{free}
-use Rattle.tree.specs.Tree.{Tree, leaf, test, below, tree, size, answer, asked, conflict, ifConflict}
+use Rattle.tree.specs.Tree.{Tree, leaf, test, below, tree, size, answer, asked, conflict, ifConflict, named}
 use Rattle.tree.specs.Written.{testWord, leafWord, headerWord, nodes, written}
-use Rattle.tree.specs.Walk.{arrives, after, named, path, enters, walkOf}
+use Rattle.flat.specs.Walk.{arrives, after, path, enters, walkOf}
 use Rattle.tree.specs.Checker.{settled, isStepOne, isStepTwo, provided, meeting, checkFrom, checkBelow, endsAt, acceptsBy, accepts, checkOf}
 use Rattle.tree.specs.Generate.{fits, generateOf, bufferOf}
 use Rattle.tree.specs.declared.Ended.{Ended}

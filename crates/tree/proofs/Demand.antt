@@ -15,6 +15,7 @@ use native.Mathlib.Omega.{arith}
 use borrow.Author.Tests.{leb-true}
 use lib.ListN.{length, take, drop}
 use lib.Seq.{take-at}
+use Rattle.words.specs.Tests.{distinct}
 use Rattle.words.specs.Words.{word}
 use Rattle.words.proofs.Logic.{cases, and-r, options}
 use Rattle.words.specs.Outcome.{Outcome, result, refused}
@@ -27,10 +28,10 @@ use Rattle.choice.specs.Rule.{Choice, names, nothing, ambiguous}
 use Rattle.selection.specs.Selection.{select}
 use Rattle.selection.proofs.Formula.{Selects, Unclaimed, Contested, names-exactly, nothing-exactly, ambiguous-exactly}
 use Rattle.cell.specs.Cell.{start}
-use Rattle.tree.specs.Tree.{Tree, tree, size, asked, distinct, conflict}
+use Rattle.tree.specs.Tree.{Tree, tree, size, asked, named, conflict}
 use Rattle.tree.specs.Written.{written}
 use Rattle.tree.specs.Generate.{fits, judged, generateOf, leftBy, bufferOf}
-use Rattle.tree.specs.Walk.{arrives, named, path, walkOf}
+use Rattle.flat.specs.Walk.{arrives, path, walkOf}
 use Rattle.tree.proofs.Theorem.{tree-right, tree-short, tree-once, tree-conflict, tree-sound, conflict-found}
 use Rattle.tree.proofs.Writing.{length-nodes}
 use Rattle.tree.proofs.Paths.{sound-tree, path-whole, walk-written}

@@ -18,7 +18,7 @@ use Rattle.tree.specs.Tree.{leaf, test, treeOf, below, tree, size, confl
 use Rattle.tree.specs.Written.{headerWord, testWord, leafWord, nodes, written}
 use Rattle.tree.specs.Generate.{fits, judged, generateOf, leftBy, bufferOf, tableWith}
 use Rattle.flat.specs.Nodes.{headerRest, headerOf, testNode, namesNode, nothingNode, nodeOf}
-use Rattle.tree.specs.Walk.{Walk, path, enters, walkOf}
+use Rattle.flat.specs.Walk.{Walk, path, enters, walkOf}
 use Rattle.tree.specs.Checker.{isStepOne, isStepTwo, checkFrom, checkBelow, acceptsBy, accepts, checkOf}
 
 -- a tree and its first conflict, with every definition open

@@ -11,7 +11,7 @@ use lib.Bits.{bitAnd, bitOr, and-comm, or-lt, and-zero-r, or-zero-r}
 use lib.Dec.{eqb}
 use lib.Pow.{pow-lt, pow-pos}
 use lib.ListN.{length}
-use Rattle.words.specs.Tests.{_or_}
+use Rattle.words.specs.Tests.{_or_, isIn, distinct}
 use Rattle.words.specs.Words.{bit}
 use Rattle.table.specs.Lawful.{goodTable}
 use Rattle.table.specs.Table.{Entry, entryNumber}
@@ -19,7 +19,7 @@ use Rattle.choice.specs.Rule.{Choice, names, nothing, ambiguous, judge}
 use Rattle.selection.specs.Selection.{claims, select}
 use Rattle.cell.specs.Cell.{Cell, start, zeroSide, oneSide, live, sure, openEntry}
 use Rattle.cell.specs.Step.{Step, end, split, free, step}
-use Rattle.tree.specs.Tree.{Tree, leaf, test, treeOf, below, tree, answer, asked, isIn, distinct, conflict, ifConflict}
+use Rattle.tree.specs.Tree.{Tree, leaf, test, treeOf, below, tree, answer, asked, conflict, ifConflict}
 use Rattle.words.proofs.Bits.{bit-and, bit-or, bit-pow, and-or, and-pow}
 use Rattle.words.proofs.Logic.{cases, options, clash, isFalse, same, and-i, and-r, or-l, or-ir, or-e, not-it, exists-none, howMany-le}
 use Rattle.choice.proofs.Judging.{answers, judge-names, judge-nothing, judge-same}

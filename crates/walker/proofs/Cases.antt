@@ -6,7 +6,7 @@ use Prim.Native.Nat.{ℕ}
 use lib.Dec.{eqb}
 use Rattle.words.specs.Outcome.{Outcome, result, faulty, refused}
 use Rattle.words.proofs.Logic.{one-to-one}
-use Rattle.tree.specs.Walk.{Walk}
+use Rattle.flat.specs.Walk.{Walk}
 use Rattle.walker.specs.Walked.{said}
 use Rattle.walker.specs.declared.Walked.{Walked}
 use Rattle.walker.specs.declared.Walked.the-variants as walked

@@ -10,7 +10,7 @@ use Rattle.words.specs.Words.{word}
 use Rattle.words.specs.Bytes.{wordsOf}
 use Rattle.words.specs.Outcome.{refused}
 use Rattle.flat.specs.Nodes.{headerOf, saidHeader}
-use Rattle.tree.specs.Walk.{path, ended, enters, walkOf}
+use Rattle.flat.specs.Walk.{path, ended, enters, walkOf}
 use Rattle.flat.specs.declared.Header.{Header}
 use Rattle.flat.specs.declared.Header.the-variants.{Bad, Good}
 use Rattle.walker.specs.Walked.{walkBytes}

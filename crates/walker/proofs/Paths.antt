@@ -11,7 +11,7 @@ use lib.ListN.{length}
 use Rattle.words.specs.Words.{word, bit}
 use Rattle.words.specs.Outcome.{Outcome, result, faulty, refused}
 use Rattle.flat.specs.Nodes.{nodeOf, saidNode}
-use Rattle.tree.specs.Walk.{Ending, arrives, breaks, after, onward, path, Walk, ended}
+use Rattle.flat.specs.Walk.{Ending, arrives, breaks, after, onward, path, Walk, ended}
 use Rattle.flat.specs.declared.Node.{Node}
 use Rattle.flat.specs.declared.Node.the-variants as node
 use Rattle.walker.specs.Walked.{wentOf}

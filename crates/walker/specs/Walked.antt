@@ -8,7 +8,7 @@ use lib.ListN.{length}
 use Rattle.words.specs.Words.{bit}
 use Rattle.words.specs.Bytes.{wordsOf}
 use Rattle.words.specs.Outcome.{Outcome, result, refused}
-use Rattle.tree.specs.Walk.{Walk, walkOf}
+use Rattle.flat.specs.Walk.{Walk, walkOf}
 use Rattle.flat.specs.declared.Node.{Node}
 use Rattle.flat.specs.declared.Node.the-variants as node
 use Rattle.walker.specs.declared.Walked.{Walked}

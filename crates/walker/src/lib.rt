@@ -7,7 +7,7 @@ ghost use Prim.Native.Nat.{ℕ, _≤_, _<_};
 ghost use Rattle.words.specs.Bytes.{wordsOf};
 ghost use Rattle.words.specs.Outcome.{causeOf};
 ghost use Rattle.flat.specs.Nodes.{nodeOf};
-ghost use Rattle.tree.specs.Walk.{path as pathOf, ended, walkOf};
+ghost use Rattle.flat.specs.Walk.{path as pathOf, ended, walkOf};
 ghost use Rattle.walker.specs.Walked.{said, Small, walkBytes, wentOf, WentBounds};
 
 // What a walk answers: an entry, or nothing, with the number of tests on the path; or why not: a bad header or length (8),

@@ -1,9 +1,9 @@
 -- Tests over a list, and over the numbers below a bound. Each computes. All other crates cite these.
 use Prim.Native.Nat.{ℕ, zero, suc}
-use mathlib.Core.Bool.{Bool, true, false, cond}
+use mathlib.Core.Bool.{Bool, true, false, not, cond}
 use mathlib.Core.List.{List, [], _∷_}
 use mathlib.Core.Option.{Option, none, some}
-use lib.Dec.{leb}
+use lib.Dec.{leb, eqb}
 
 infixl 35 _and_
 infixl 30 _or_
@@ -24,6 +24,15 @@ allOf p (x ∷ xs) = p x and allOf p xs
 unfoldable pub anyOf : {A : Type 0} → (A → Bool) → List A → Bool
 anyOf p [] = false
 anyOf p (x ∷ xs) = p x or anyOf p xs
+
+-- a number is in a list; no number is in it twice
+unfoldable pub isIn : ℕ → List ℕ → Bool
+isIn i [] = false
+isIn i (j ∷ js) = eqb i j or isIn i js
+
+unfoldable pub distinct : List ℕ → Bool
+distinct [] = true
+distinct (j ∷ js) = not (isIn j js) and distinct js
 
 -- every number below n passes; some number below n does
 unfoldable pub every : (ℕ → Bool) → ℕ → Bool

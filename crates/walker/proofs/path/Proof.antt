@@ -3,7 +3,7 @@ use mathlib.Core.Path.{_≡_, sym, ap, _∙_, subst}
 use native.Mathlib.Omega.{arith}
 use borrow.Author.Needs.{needs}
 use Rattle.flat.specs.Nodes.{nodeOf}
-use Rattle.tree.specs.Walk.{path, ended}
+use Rattle.flat.specs.Walk.{path, ended}
 use Rattle.walker.specs.Walked.{wentOf, WentBounds}
 use Rattle.walker.specs.declared.Went.{Went}
 use Rattle.walker.proofs.Paths.{plus, plus-zero, goes-on, ends-entry, ends-nothing, ends-damaged}

@@ -4,7 +4,7 @@ use native.Mathlib.Omega.{arith}
 use borrow.Author.Needs.{needs}
 use Rattle.words.specs.Bytes.{wordsOf}
 use Rattle.flat.specs.Nodes.{nodeOf}
-use Rattle.tree.specs.Walk.{path, ended}
+use Rattle.flat.specs.Walk.{path, ended}
 use Rattle.walker.specs.Walked.{wentOf, WentBounds}
 use Rattle.walker.specs.declared.Went.{Went}
 use Rattle.walker.proofs.Paths.{plus, plus-zero, goes-on, ends-entry, ends-nothing, ends-damaged}
