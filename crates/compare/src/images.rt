@@ -71,7 +71,7 @@ fn is_item(at: u32, word: u32, next: u32) -> bool {
 // Whether a step from an address gives its item, or the end.
 fn steps(tree: &[u32], at: u32) -> bool {
     match image::step(&tables::PACKED, tree, &BYTES, HalfwordAddress(at)) {
-        Stepped::Item(word, next) => is_item(at, word, next.0),
+        Stepped::Item(word, next, _) => is_item(at, word, next.0),
         Stepped::End => HALVES <= at,
         _ => false,
     }

@@ -39,15 +39,20 @@ fn looked_up(table: &[u32], w: u32) -> u32 {
     }
 }
 
-// Whether a walk names what is expected, and counts the tests of its path.
+// Whether a count and a mask are those of the tests on a word's path.
+fn are_tests(tree: &[u32], w: u32, count: u32, mask: u32) -> bool {
+    let seen = paths::tests(tree, w);
+    count as usize == seen.count && mask == seen.mask
+}
+
+// Whether a walk names what is expected, and tells the tests of its path.
 fn walks(tree: &[u32], w: u32, expected: u32) -> bool {
-    let tests = paths::tests(tree, w);
     match walker::walk(tree, w) {
-        Walked::Entry(entry, count) => entry == expected && count as usize == tests,
-        Walked::Nothing(count) => expected == others::NOTHING && count as usize == tests,
-        Walked::BadTree => false,
-        Walked::TooWide => false,
-        Walked::Damaged(_) => false,
+        Walked::Entry(entry, count, mask) => entry == expected && are_tests(tree, w, count, mask),
+        Walked::Nothing(count, mask) => {
+            expected == others::NOTHING && are_tests(tree, w, count, mask)
+        }
+        Walked::Refused(_, _) => false,
     }
 }
 

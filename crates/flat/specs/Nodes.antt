@@ -17,9 +17,13 @@ use Rattle.flat.specs.declared.Node.the-variants.{Damaged, Asks, Names, 
 unfoldable pub headerRest : ℕ → ℕ → ℕ → Header
 headerRest width n words = cond (leb 1 width and leb width 32 and leb 1 n and ltb n words) (Good width n) Bad
 
+-- the width that a header word says
+abbrev pub headerWidth : ℕ → ℕ
+headerWidth x = bits 21 16 x
+
 -- (a tree of no words has no node, so its length 0 is bad too)
 unfoldable pub headerOf : ℕ → ℕ → Header
-headerOf x words = cond (eqb (bits 31 28 x) 7 and eqb (bits 27 22 x) 0) (headerRest (bits 21 16 x) (bits 15 0 x) words) Bad
+headerOf x words = cond (eqb (bits 31 28 x) 7 and eqb (bits 27 22 x) 0) (headerRest (headerWidth x) (bits 15 0 x) words) Bad
 
 -- a tree's width and its number of nodes
 pub record TreeShape : Type 0 where

@@ -18,6 +18,7 @@ use Rattle.table.specs.Check.{fine, tableCheck, readTable}
 use Rattle.table.specs.Ready.{Ready}
 use Rattle.table.proofs.Laws.{length-entries}
 use Rattle.table.proofs.Views.{ready-at}
+use Rattle.flat.specs.Walk.{walkOf, maskOrZero}
 use Rattle.tree.specs.Checker.{accepts, checkOf, said}
 use Rattle.tree.specs.declared.Checked.{Checked}
 use Rattle.image.specs.declared.HalfwordAddress.{HalfwordAddress}
@@ -29,9 +30,9 @@ use Rattle.image.specs.declared.Stepped.the-variants as stepped
 use Rattle.image.specs.declared.Refusal.{Refusal}
 use Rattle.image.specs.declared.Refusal.the-variants as refusal
 use Rattle.image.specs.declared.Admission.{Admission}
-use Rattle.image.specs.Address.{halfwords}
+use Rattle.image.specs.Address.{wordAt, halfwords}
 use Rattle.image.specs.Items.{itemAt, items}
-use Rattle.image.specs.Listing.{imageSize, imageTable, imageGood, refuseUnless, admitted, listFrom, listOf, bufferFrom, bufferOf, saidList, Lists, stepFrom, stepOf, saidStep}
+use Rattle.image.specs.Listing.{imageSize, imageTable, imageGood, refuseUnless, admitted, listFrom, listOf, bufferFrom, bufferOf, saidList, Lists, stepAt, stepFrom, stepOf, saidStep}
 use Rattle.image.specs.Parts.{Admitted, saidRefusal, Admits, Fills}
 
 -- a result is no refusal
@@ -205,17 +206,18 @@ module _ (ws tree image : List ℕ) (a : Admission) (m : Admits ws tree image a)
     unfolding listOf listFrom bufferOf bufferFrom
     list-filled before out r s = record { answer = s .answer ∙ rw (sym is-admitted ∙ e) refl; buffer = s .buffer ∙ rw (sym is-admitted ∙ e) refl }
 
-    pub step-made : (at : HalfwordAddress) (r : Stepped) → saidStep r ≡ stepFrom (result (tableOf ws .entries)) image at → saidStep r ≡ stepOf (readTable ws) tree image at
+    pub step-made : (at : HalfwordAddress) (r : Stepped) → saidStep r ≡ stepFrom (result (tableOf ws .entries)) tree image at → saidStep r ≡ stepOf (readTable ws) tree image at
     unfolding stepOf
-    step-made at r s = s ∙ ap (λ (o : Outcome (List Entry)). stepFrom o image at) (sym e ∙ is-admitted)
+    step-made at r s = s ∙ ap (λ (o : Outcome (List Entry)). stepFrom o tree image at) (sym e ∙ is-admitted)
 
 -- ---- the step where nothing is refused
 
-module _ (es : List Entry) (image : List ℕ) (at : HalfwordAddress) where
-  pub step-end : halfwords image ≤ at .0 → saidStep stepped.End ≡ stepFrom (result es) image at
+module _ (es : List Entry) (tree image : List ℕ) (at : HalfwordAddress) where
+  pub step-end : halfwords image ≤ at .0 → saidStep stepped.End ≡ stepFrom (result es) tree image at
   unfolding stepFrom
   step-end h = rw (le-leb (halfwords image) (at .0) h) refl
 
-  pub step-item : at .0 < halfwords image → (i : Item) → i ≡ itemAt es image at → saidStep (stepped.Item (i .word) (i .next)) ≡ stepFrom (result es) image at
-  unfolding stepFrom
-  step-item h i q = rw (lt-leb (halfwords image) (at .0) h, q) refl
+  pub step-item : at .0 < halfwords image → (i : Item) → i ≡ itemAt es image at → (m : ℕ) → m ≡ maskOrZero (walkOf tree (wordAt image at))
+      → saidStep (stepped.Item (i .word) (i .next) m) ≡ stepFrom (result es) tree image at
+  unfolding stepFrom stepAt
+  step-item h i q m k = rw (lt-leb (halfwords image) (at .0) h, q, k) refl

@@ -6,8 +6,7 @@ use Prim.Native.Nat.{ℕ}
 use lib.Dec.{eqb}
 use Rattle.words.specs.Outcome.{Outcome, result, faulty, refused}
 use Rattle.words.proofs.Logic.{one-to-one}
-use Rattle.image.specs.Listing.{saidList, saidStep}
-use Rattle.image.specs.declared.Item.{Item}
+use Rattle.image.specs.Listing.{saidList, Step, saidStep}
 use Rattle.image.specs.declared.Listed.{Listed}
 use Rattle.image.specs.declared.Listed.the-variants as listed
 use Rattle.image.specs.declared.Stepped.{Stepped}
@@ -31,15 +30,15 @@ list-back (listed.Refused n p) = refl
 pub list-one : (r s : Listed) → saidList r ≡ saidList s → r ≡ s
 list-one = one-to-one saidList back-list list-back
 
-back-step : Outcome (Option Item) → Stepped
-back-step (result (some i)) = stepped.Item (i .word) (i .next)
+back-step : Outcome (Option Step) → Stepped
+back-step (result (some s)) = stepped.Item (s .item .word) (s .item .next) (s .mask)
 back-step (result none) = stepped.End
 back-step (faulty n p) = stepped.Refused n p
 back-step (refused n p w) = cond (eqb n 15) stepped.BadTable (cond (eqb n 16) stepped.BadImage stepped.BadTree)
 
 step-back : (r : Stepped) → back-step (saidStep r) ≡ r
 unfolding back-step
-step-back (stepped.Item w a) = refl
+step-back (stepped.Item w a m) = refl
 step-back stepped.End = refl
 step-back stepped.BadTable = refl
 step-back stepped.BadImage = refl

@@ -12,7 +12,8 @@ use Rattle.image.specs.declared.HalfwordAddress.{HalfwordAddress}
 use Rattle.image.specs.declared.Item.{Item}
 use Rattle.image.specs.Address.{halfwordAt, wordAt}
 use Rattle.image.specs.Items.{pickedBy, picked, foundWord, nothingWord, cutWord, itemOf, itemAt, itemsFrom, items}
-use Rattle.image.specs.Listing.{imageSize, imageTable, imageGood, refuseUnless, admitted, counted, filledWith, listFrom, listOf, bufferFrom, bufferOf, stepFrom, stepOf}
+use Rattle.flat.specs.Walk.{path, maskOf, enters, walkOf}
+use Rattle.image.specs.Listing.{imageSize, imageTable, imageGood, refuseUnless, admitted, counted, filledWith, listFrom, listOf, bufferFrom, bufferOf, Step, stepAt, stepFrom, stepOf}
 
 -- width 32: entry 0 has 16 bits, 0 and a field of 15; entry 1 has 32 bits, 10 and a field of 30; 11 is nothing
 abbrev table : List ℕ
@@ -47,12 +48,12 @@ odd = 0x34 ∷ 0x12 ∷ 0x01 ∷ 0x80 ∷ 0x02 ∷ 0x00 ∷ 0x00 ∷ 0xc0 ∷ 0x
 abbrev at : ℕ → HalfwordAddress
 at n = record { 0 = n }
 
-abbrev item : ℕ → ℕ → Outcome (Option Item)
-item word next = result (some (record { word = word; next = at next }))
+abbrev item : ℕ → ℕ → ℕ → Outcome (Option Step)
+item word next mask = result (some (record { item = record { word = word; next = at next }; mask = mask }))
 
 -- listing by this table, with every definition open
 unfoldable pub lists : List ℕ → List ℕ → ℕ → Outcome ℕ
-unfolding verdict looks halfwordAt wordAt pickedBy picked foundWord nothingWord cutWord itemOf itemAt itemsFrom items imageSize imageTable imageGood refuseUnless admitted counted filledWith listFrom listOf bufferFrom bufferOf stepFrom stepOf
+unfolding verdict looks halfwordAt wordAt pickedBy picked foundWord nothingWord cutWord itemOf itemAt itemsFrom items imageSize imageTable imageGood refuseUnless admitted counted filledWith listFrom listOf bufferFrom bufferOf path maskOf enters walkOf stepAt stepFrom stepOf
 lists tree image room = listOf (readTable table) tree image room
 
 -- ---- a whole listing
@@ -85,15 +86,15 @@ pub refusals : Refusals
 unfolding lists
 refusals = record { no-table = refl; width-8 = refl; length-24 = refl; odd-image = refl; bad-tree = refl; unchanged = refl }
 
--- ---- steps
+-- ---- steps: the item, the address after it, the mask of the bits tested
 
 pub record Steps : Type 0 where
-  pub short : stepOf (readTable table) tree image (at 0) ≡ item 0xc0000000 1
-  pub long : stepOf (readTable table) tree image (at 1) ≡ item 0xc0100001 3
+  pub short : stepOf (readTable table) tree image (at 0) ≡ item 0xc0000000 1 0x80000000
+  pub long : stepOf (readTable table) tree image (at 1) ≡ item 0xc0100001 3 0xc0000000
   -- in the middle of an item
-  pub inside : stepOf (readTable table) tree image (at 2) ≡ item 0xc0000002 3
-  pub nothing : stepOf (readTable table) tree image (at 3) ≡ item 0xd0000003 4
-  pub cut : stepOf (readTable table) tree image (at 4) ≡ item 0xe0000004 5
+  pub inside : stepOf (readTable table) tree image (at 2) ≡ item 0xc0000002 3 0x80000000
+  pub nothing : stepOf (readTable table) tree image (at 3) ≡ item 0xd0000003 4 0xc0000000
+  pub cut : stepOf (readTable table) tree image (at 4) ≡ item 0xe0000004 5 0xc0000000
   pub end : stepOf (readTable table) tree image (at 5) ≡ result none
   pub past : stepOf (readTable table) tree image (at 9) ≡ result none
   -- it refuses as a listing does, past the end too

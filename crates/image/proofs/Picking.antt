@@ -14,7 +14,7 @@ use Rattle.table.proofs.Views.{ready-at, ready-place, ready-short}
 use Rattle.choice.specs.Rule.{names}
 use Rattle.selection.specs.Selection.{select}
 use Rattle.selection.proofs.Formula.{names-exactly, nothing-exactly}
-use Rattle.flat.specs.Walk.{Walk, walkOf}
+use Rattle.flat.specs.Walk.{maskOf, Walk, walkOf}
 use Rattle.tree.specs.Tree.{named}
 use Rattle.tree.proofs.Demand.{Right}
 use Rattle.tree.proofs.Accepting.{accepted, accepted-right}
@@ -25,8 +25,8 @@ use Rattle.image.specs.declared.Picked.the-variants.{Short, Long, Nothin
 use Rattle.image.specs.Items.{pickedBy, picked}
 use Rattle.image.specs.Parts.{Usable}
 
-abbrev walked-to : Option ℕ → ℕ → Walk
-walked-to e n = record { entry = e; count = n }
+abbrev walked-to : Option ℕ → ℕ → ℕ → Walk
+walked-to e n m = record { entry = e; count = n; mask = m }
 
 module _ (ws places tree : List ℕ) (u : Usable ws places tree) (w : ℕ) (h : w < 2 ^ 32) (r : Walked) (q : said r ≡ walkOf tree w) where
   abbrev es : List Entry
@@ -36,44 +36,44 @@ module _ (ws places tree : List ℕ) (u : Usable ws places tree) (w : ℕ) (h : 
   right : Right es 32 (accepted es 32 tree (u .right) .number) tree w
   right = accepted-right es 32 tree (u .right) w h
 
-  selects-entry : (e n : ℕ) → r ≡ walked.Entry e n → select es w ≡ names e
-  selects-entry e n k =
-      let s : result (walked-to (some e) n) ≡ result (walked-to (named (select es w)) (length (right .tests))) = sym (ap said k) ∙ q ∙ right .answers in
-      let v : walked-to (some e) n ≡ walked-to (named (select es w)) (length (right .tests)) = cc in
+  selects-entry : (e n m : ℕ) → r ≡ walked.Entry e n m → select es w ≡ names e
+  selects-entry e n m k =
+      let s : result (walked-to (some e) n m) ≡ result (walked-to (named (select es w)) (length (right .tests)) (maskOf (right .tests))) = sym (ap said k) ∙ q ∙ right .answers in
+      let v : walked-to (some e) n m ≡ walked-to (named (select es w)) (length (right .tests)) (maskOf (right .tests)) = cc in
       names-exactly es w e .1 (right .selected e .0 (sym (ap (λ (x : Walk). x .entry) v)))
 
-  below : (e n : ℕ) → r ≡ walked.Entry e n → e < countOf (word ws 0)
-  below e n k = omega (arith, names-exactly es w e .0 (selects-entry e n k) .entry, length-entries ws (countOf (word ws 0)) 1)
+  below : (e n m : ℕ) → r ≡ walked.Entry e n m → e < countOf (word ws 0)
+  below e n m k = omega (arith, names-exactly es w e .0 (selects-entry e n m k) .entry, length-entries ws (countOf (word ws 0)) 1)
 
-  pub picks-place : (e n : ℕ) → r ≡ walked.Entry e n → getD places e 0 < 2 ^ 16
-  picks-place e n k = omega (arith, ready-place ws places 32 _ (u .reads) e (below e n k), ready-short ws places 32 _ (u .reads))
+  pub picks-place : (e n m : ℕ) → r ≡ walked.Entry e n m → getD places e 0 < 2 ^ 16
+  picks-place e n m k = omega (arith, ready-place ws places 32 _ (u .reads) e (below e n m k), ready-short ws places 32 _ (u .reads))
 
   -- the entry's length is in its head word
-  size-is : (e n : ℕ) → r ≡ walked.Entry e n → entryNumber es e .size ≡ sizeOf (word ws (getD places e 0))
-  size-is e n k = ap (λ (x : Entry). x .size) (ready-at ws places 32 _ (u .reads) e (below e n k) _)
+  size-is : (e n m : ℕ) → r ≡ walked.Entry e n m → entryNumber es e .size ≡ sizeOf (word ws (getD places e 0))
+  size-is e n m k = ap (λ (x : Entry). x .size) (ready-at ws places 32 _ (u .reads) e (below e n m k) _)
 
-  module _ (e n size : ℕ) (k : r ≡ walked.Entry e n) (z : size ≡ sizeOf (word ws (getD places e 0))) where
+  module _ (e n m size : ℕ) (k : r ≡ walked.Entry e n m) (z : size ≡ sizeOf (word ws (getD places e 0))) where
     pub picks-short : size ≡ 16 → Short e ≡ picked es w
     unfolding picked pickedBy
-    picks-short s = rw (selects-entry e n k, eq-eqb _ 16 (size-is e n k ∙ sym z ∙ s)) refl
+    picks-short s = rw (selects-entry e n m k, eq-eqb _ 16 (size-is e n m k ∙ sym z ∙ s)) refl
 
     pub picks-long : (size ≡ 16 → ⊥) → Long e ≡ picked es w
     unfolding picked pickedBy
-    picks-long s = rw (selects-entry e n k, ne-eqb _ 16 (λ t. s (z ∙ sym (size-is e n k) ∙ t))) refl
+    picks-long s = rw (selects-entry e n m k, ne-eqb _ 16 (λ t. s (z ∙ sym (size-is e n m k) ∙ t))) refl
 
-  pub picks-nothing : (n : ℕ) → r ≡ walked.Nothing n → Nothing ≡ picked es w
+  pub picks-nothing : (n m : ℕ) → r ≡ walked.Nothing n m → Nothing ≡ picked es w
   unfolding picked pickedBy
-  picks-nothing n k =
-      let s : result (walked-to none n) ≡ result (walked-to (named (select es w)) (length (right .tests))) = sym (ap said k) ∙ q ∙ right .answers in
-      let v : walked-to none n ≡ walked-to (named (select es w)) (length (right .tests)) = cc in
+  picks-nothing n m k =
+      let s : result (walked-to none n m) ≡ result (walked-to (named (select es w)) (length (right .tests)) (maskOf (right .tests))) = sym (ap said k) ∙ q ∙ right .answers in
+      let v : walked-to none n m ≡ walked-to (named (select es w)) (length (right .tests)) (maskOf (right .tests)) = cc in
       rw (nothing-exactly es w .1 (right .unclaimed .0 (sym (ap (λ (x : Walk). x .entry) v)))) refl
 
   -- the walk is not refused
-  pub never {ℓ} : {G : Type ℓ} (m p x : ℕ) → said r ≡ refused m p x → G
-  never m p x s =
-      let t : refused m p x ≡ result (walked-to (named (select es w)) (length (right .tests))) = sym s ∙ q ∙ right .answers in
+  pub never {ℓ} : {G : Type ℓ} (number p x : ℕ) → said r ≡ refused number p x → G
+  never number p x s =
+      let t : refused number p x ≡ result (walked-to (named (select es w)) (length (right .tests)) (maskOf (right .tests))) = sym s ∙ q ∙ right .answers in
       absurd (let z : _≡_ {A = ℕ} 0 1 = cc in omega arith)
 
 -- an entry that a walk answers is below 256
-pub entry-small : (r : Walked) (e n : ℕ) → r ≡ walked.Entry e n → Small r → e < 256
-entry-small r e n k s = (rw k at s) .0
+pub entry-small : (r : Walked) (e n m : ℕ) → r ≡ walked.Entry e n m → Small r → e < 256
+entry-small r e n m k s = (rw k at s) .0

@@ -11,6 +11,7 @@ use Rattle.words.specs.Words.{word, bits}
 use Rattle.words.specs.Outcome.{Outcome, result, faulty, refused}
 use Rattle.table.specs.Table.{Entry, Table}
 use Rattle.table.specs.Check.{readTable}
+use Rattle.flat.specs.Walk.{walkOf, maskOrZero}
 use Rattle.tree.specs.Checker.{accepts}
 use Rattle.image.specs.declared.HalfwordAddress.{HalfwordAddress}
 use Rattle.image.specs.declared.Item.{Item}
@@ -18,7 +19,7 @@ use Rattle.image.specs.declared.Listed.{Listed}
 use Rattle.image.specs.declared.Listed.the-variants as listed
 use Rattle.image.specs.declared.Stepped.{Stepped}
 use Rattle.image.specs.declared.Stepped.the-variants as stepped
-use Rattle.image.specs.Address.{halfwords}
+use Rattle.image.specs.Address.{wordAt, halfwords}
 use Rattle.image.specs.Items.{itemAt, items}
 
 -- ---- what refuses a listing and a step alike
@@ -91,19 +92,28 @@ pub record Lists (ws tree image before after : List ℕ) (r : Listed) : Type 0 w
 
 -- ---- a step
 
+-- what a step gives: the item and, document 02, No. 1, "its item's mask"
+pub record Step : Type 0 where
+  pub item : Item
+  pub mask : ℕ
+
+-- the mask is that of the walk of the item's word
+unfoldable pub stepAt : List Entry → List ℕ → List ℕ → HalfwordAddress → Step
+stepAt es tree image a = record { item = itemAt es image a; mask = maskOrZero (walkOf tree (wordAt image a)) }
+
 -- "at or past the image's end says end", which is none
-unfoldable pub stepFrom : Outcome (List Entry) → List ℕ → HalfwordAddress → Outcome (Option Item)
-stepFrom (faulty n p) image a = faulty n p
-stepFrom (refused n p x) image a = refused n p x
-stepFrom (result es) image a = result (cond (leb (halfwords image) (a .0)) none (some (itemAt es image a)))
+unfoldable pub stepFrom : Outcome (List Entry) → List ℕ → List ℕ → HalfwordAddress → Outcome (Option Step)
+stepFrom (faulty n p) tree image a = faulty n p
+stepFrom (refused n p x) tree image a = refused n p x
+stepFrom (result es) tree image a = result (cond (leb (halfwords image) (a .0)) none (some (stepAt es tree image a)))
 
 -- "A step takes an address, refuses as listing does but for 17"
-unfoldable pub stepOf : Outcome Table → List ℕ → List ℕ → HalfwordAddress → Outcome (Option Item)
-stepOf r tree image a = stepFrom (admitted r tree image) image a
+unfoldable pub stepOf : Outcome Table → List ℕ → List ℕ → HalfwordAddress → Outcome (Option Step)
+stepOf r tree image a = stepFrom (admitted r tree image) tree image a
 
 -- the paper's number and values for each case of the answer
-abbrev pub saidStep : Stepped → Outcome (Option Item)
-saidStep (stepped.Item w a) = result (some (record { word = w; next = a }))
+abbrev pub saidStep : Stepped → Outcome (Option Step)
+saidStep (stepped.Item w a m) = result (some (record { item = record { word = w; next = a }; mask = m }))
 saidStep stepped.End = result none
 saidStep stepped.BadTable = refused 15 0 0
 saidStep stepped.BadImage = refused 16 0 0

@@ -104,9 +104,10 @@ pub fn list(table: &[u32], tree: &[u32], image: &[u8], out: &mut [u32]) -> Liste
     }
 }
 
-// What a step answers: the item's word and the address after it, or the end; or why not, as a listing does but for 17.
+// What a step answers: the item's word, the address after it and the item's mask, or the end; or why not, as a listing does but
+// for 17.
 pub enum Stepped {
-    Item(u32, HalfwordAddress),
+    Item(u32, HalfwordAddress, u32),
     End,
     BadTable,
     BadImage,
@@ -120,7 +121,7 @@ impl Stepped {
         ensures { λ r. ⌜ r ≡ causeOf (saidStep self) ⌝ }
     {
         match self {
-            Stepped::Item(_, _) => Cause::of(0, 0, 0),
+            Stepped::Item(_, _, _) => Cause::of(0, 0, 0),
             Stepped::End => Cause::of(0, 0, 0),
             Stepped::BadTable => Cause::of(15, 0, 0),
             Stepped::BadImage => Cause::of(16, 0, 0),
@@ -139,7 +140,7 @@ fn step_ready(
     at: HalfwordAddress,
 ) -> Stepped
     requires { ⌜ Admitted (now table) (now places) (now tree) (now image) ⌝ }
-    ensures { λ r. ⌜ saidStep r ≡ stepFrom (result (tableOf (now (table .entry)) .entries)) (now (image .entry)) at ⌝ }
+    ensures { λ r. ⌜ saidStep r ≡ stepFrom (result (tableOf (now (table .entry)) .entries)) (now (tree .entry)) (now (image .entry)) at ⌝ }
 {
     let end = halfwords(image);
     if end <= at.0 {
@@ -147,7 +148,8 @@ fn step_ready(
     }
     let item = lister::item_at(table, places, tree, image, at);
     let next = item.next;
-    Stepped::Item(item.word, next)
+    let mask = lister::mask_at(tree, image, at);
+    Stepped::Item(item.word, next, mask)
 }
 
 // The step at an address.

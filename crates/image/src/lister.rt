@@ -11,6 +11,7 @@ ghost use mathlib.Core.Path.{_≡_};
 ghost use Prim.Native.Nat.{_+_, _*_, _^_, _≤_, _<_};
 ghost use lib.ListN.{getD};
 ghost use Rattle.table.specs.Table.{tableOf};
+ghost use Rattle.flat.specs.Walk.{walkOf, maskOrZero};
 ghost use Rattle.image.specs.Address.{halfwordAt, wordAt, halfwords as halfwordsOf};
 ghost use Rattle.image.specs.Items.{picked, foundWord, nothingWord, cutWord, itemOf, itemAt, items};
 ghost use Rattle.image.specs.Parts.{Usable, Admitted, Fills};
@@ -65,17 +66,15 @@ fn pick(table: &[u32], places: &[u32; 256], tree: &[u32], w: u32) -> Picked
     ensures { λ r. ⌜ r ≡ picked (tableOf (now (table .entry)) .entries) w ⌝ }
 {
     match walker::walk(tree, w) {
-        Walked::Entry(e, _) => {
+        Walked::Entry(e, _, _) => {
             let head = words::word_at(table, places[e as usize] as usize);
             if words::part(head, 8, 8) == 16 {
                 return Picked::Short(e as u8);
             }
             Picked::Long(e as u8)
         }
-        Walked::Nothing(_) => Picked::Nothing,
-        Walked::BadTree => Picked::Nothing,
-        Walked::TooWide => Picked::Nothing,
-        Walked::Damaged(_) => Picked::Nothing,
+        Walked::Nothing(_, _) => Picked::Nothing,
+        Walked::Refused(_, _) => Picked::Nothing,
     }
 }
 
@@ -145,6 +144,15 @@ pub fn item_at(
 {
     let end = halfwords(image);
     item_of(pick(table, places, tree, word(image, a)), a, end)
+}
+
+// The mask of the item at an address: of the walk of the word there.
+pub fn mask_at(tree: &[u32], image: &[u8], a: HalfwordAddress) -> u32
+    requires { ⌜ a .0 < 2 ^ 20 ⌝ }
+    ensures { λ r. ⌜ r ≡ maskOrZero (walkOf (now (tree .entry)) (wordAt (now (image .entry)) a)) ⌝ }
+{
+    let walked = walker::walk(tree, word(image, a));
+    walked.mask()
 }
 
 // Lists the image from its start into the buffer.

@@ -6,14 +6,14 @@ use Rattle.words.specs.Words.{part, bit}
 use Rattle.words.specs.Tests.{_and_}
 use Rattle.words.specs.Bytes.{wordOf, wordsOf}
 use Rattle.flat.specs.Nodes.{headerRest, headerOf, testNode, namesNode, nothingNode, nodeOf}
-use Rattle.flat.specs.Walk.{path, enters, walkOf}
+use Rattle.flat.specs.Walk.{path, maskOf, enters, walkOf, maskOrZero}
 use Rattle.walker.specs.Walked.{walkBytes}
 use Rattle.words.specs.Outcome.{faulty, refused}
 use Rattle.kilnumber.specs.Packed.{packed, packedCheck}
 
 -- what the call answers, with every definition open
 unfoldable answered : List ℕ → ℕ → ℕ
-unfolding part bit _and_ wordOf wordsOf headerRest headerOf testNode namesNode nothingNode nodeOf path enters walkOf walkBytes
+unfolding part bit _and_ wordOf wordsOf headerRest headerOf testNode namesNode nothingNode nodeOf path maskOf enters walkOf walkBytes
 answered bytes w = packed (walkBytes bytes w)
 
 -- 70020003 80800003 a0000000 90000000, each low byte first
@@ -36,6 +36,15 @@ wide-is = refl
 odd-is : packed (walkBytes (3 ∷ 0 ∷ 2 ∷ []) 0) ≡ 0x800000000
 unfolding answered
 odd-is = refl
+
+-- the mask: bit 1; 0 where the walk is refused
+mask-is : maskOrZero (walkBytes bytes 2) ≡ 2
+unfolding answered
+mask-is = refl
+
+no-mask : maskOrZero (walkBytes bytes 4) ≡ 0
+unfolding answered
+no-mask = refl
 
 -- a damaged node at index 1: 9 with its index in bits 63–48
 damaged-is : packed (walkBytes (1 ∷ 0 ∷ 2 ∷ 0x70 ∷ 0 ∷ 0 ∷ 0 ∷ 0xb0 ∷ []) 0) ≡ 0x1000900000000

@@ -1,2 +1,3 @@
 pub mod Simulator
+pub mod Masks
 pub mod Examples

@@ -5,6 +5,7 @@ use tree::Checked;
 use walker::Walked;
 ghost use mathlib.Core.Path.{_≡_};
 ghost use Prim.Native.Nat.{ℕ};
+ghost use Rattle.flat.specs.Walk.{maskOrZero};
 ghost use Rattle.walker.specs.Walked.{said, Small, walkBytes};
 ghost use Rattle.image.specs.Listing.{saidList};
 ghost use Rattle.table.specs.Check.{readTable};
@@ -17,11 +18,11 @@ fn pack(answer: Walked) -> u64
     ensures { λ r. ⌜ r ≡ packed (said answer) ⌝ }
 {
     match answer {
-        Walked::Entry(entry, count) => (entry as u64) + (count as u64) * 65536,
-        Walked::Nothing(count) => 256 + (count as u64) * 65536,
-        Walked::BadTree => 8 * 4294967296,
-        Walked::TooWide => 7 * 4294967296,
-        Walked::Damaged(place) => 9 * 4294967296 + (place as u64) * 281474976710656,
+        Walked::Entry(entry, count, _) => (entry as u64) + (count as u64) * 65536,
+        Walked::Nothing(count, _) => 256 + (count as u64) * 65536,
+        Walked::Refused(number, place) => {
+            (number as u64) * 4294967296 + (place as u64) * 281474976710656
+        }
     }
 }
 
@@ -32,6 +33,14 @@ pub extern "C" fn kilnumber_walk(tree: &[u8], word: u32) -> u64
 {
     let answer = walker::walk_bytes(tree, word);
     pack(answer)
+}
+
+// What a cache of decoded words calls: uint32_t kilnumber_mask(const uint8_t *tree, size_t tree_bytes, uint32_t word).
+#[no_mangle]
+pub extern "C" fn kilnumber_mask(tree: &[u8], word: u32) -> u32
+    ensures { λ r. ⌜ r ≡ maskOrZero (walkBytes (now (tree .entry)) word) ⌝ }
+{
+    walker::mask_bytes(tree, word)
 }
 
 // A listing's answer in 64 bits.

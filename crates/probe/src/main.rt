@@ -23,7 +23,7 @@ const MOST_BYTES: usize = 1048576;
 const MOST_WORDS: usize = 262144;
 
 // Requests are numbered from 1.
-const LAST_NUMBER: u32 = 10;
+const LAST_NUMBER: u32 = 11;
 
 const MOST_PARTS: u32 = 8;
 
@@ -302,9 +302,10 @@ fn put_step(page: &mut [u8], at: usize, bytes: &[u8], ws: &[u32], parts: Parts) 
     let answer = image::step(table, tree, bytes_in(bytes, parts[2]), address);
     let next = put_cause(page, at, answer.cause());
     match answer {
-        Stepped::Item(item, after) => {
+        Stepped::Item(item, after, mask) => {
             let end = put_word(page, next, item);
-            put_number(page, end, after.0)
+            let last = put_number(page, end, after.0);
+            put_word(page, last, mask)
         }
         Stepped::End => put(page, next, b" end"),
         _ => next,
@@ -340,16 +341,25 @@ fn put_walk(page: &mut [u8], at: usize, ws: &[u32], parts: Parts) -> usize {
     let answer = walker::walk(words_in(ws, parts[0]), number_in(ws, parts[1]));
     let next = put_cause(page, at, answer.cause());
     match answer {
-        Walked::Entry(entry, count) => {
+        Walked::Entry(entry, count, mask) => {
             let end = put_number(page, next, entry);
-            put_number(page, end, count)
+            let last = put_number(page, end, count);
+            put_word(page, last, mask)
         }
-        Walked::Nothing(count) => {
+        Walked::Nothing(count, mask) => {
             let end = put(page, next, b" nothing");
-            put_number(page, end, count)
+            let last = put_number(page, end, count);
+            put_word(page, last, mask)
         }
         _ => next,
     }
+}
+
+// Request 11.
+fn put_mask(page: &mut [u8], at: usize, bytes: &[u8], ws: &[u32], parts: Parts) -> usize {
+    let mask = kilnumber::kilnumber_mask(bytes_in(bytes, parts[0]), number_in(ws, parts[1]));
+    let next = put(page, at, b" 0 0 00000000");
+    put_word(page, next, mask)
 }
 
 // What follows a request's number on its line.
@@ -374,6 +384,7 @@ fn put_answer(
         8 => put_step(page, at, bytes, ws, parts),
         9 => put_list(page, at, bytes, ws, parts, lent(room, bytes, parts[3])),
         10 => put_walk(page, at, ws, parts),
+        11 => put_mask(page, at, bytes, ws, parts),
         _ => at,
     }
 }

@@ -36,6 +36,7 @@ use Rattle.cell.specs.Cell.{Cell, start, zeroSide, oneSide, live, sure}
 use Rattle.cell.specs.Step.{free}
 use Rattle.tree.specs.Tree.{Tree, leaf, test, below, tree, size, answer, asked, conflict, ifConflict, named}
 use Rattle.tree.specs.Written.{testWord, leafWord, headerWord, nodes, written}
+use Rattle.flat.proofs.Reading.{header-cases, node-cases, Says, node-says}
 use Rattle.flat.specs.Walk.{arrives, after, path, enters, walkOf}
 use Rattle.tree.specs.Checker.{settled, isStepOne, isStepTwo, provided, meeting, checkFrom, checkBelow, endsAt, acceptsBy, accepts, checkOf}
 use Rattle.tree.specs.Generate.{fits, generateOf, bufferOf}
@@ -91,33 +92,6 @@ module _ (es : List Entry) where
       cases (bit w i)
       (λ t. rw t (le-trans (suc-le-suc (agrees-short width r (oneSide c i) (g .2) (s .2) w)) (le-of-eq k)))
       (λ t. rw t (le-trans (suc-le-suc (agrees-short width l (zeroSide c i) (g .1) (s .1) w)) (le-of-eq k)))
-
--- ---- what a node's reading says
-
-node-cases {ℓ} : {G : Type ℓ} (x : Node) → (x ≡ Damaged → G) → ((b k : ℕ) → x ≡ Asks b k → G) → ((e : ℕ) → x ≡ Names e → G) → (x ≡ Nothing → G) → G
-node-cases Damaged f g h k = f refl
-node-cases (Asks b j) f g h k = g b j refl
-node-cases (Names e) f g h k = h e refl
-node-cases Nothing f g h k = k refl
-
-unfoldable Says : ℕ → Node → Type 0
-Says width Damaged = Unit {0}
-Says width (Asks b k) = b < width
-Says width (Names e) = e < 256
-Says width Nothing = Unit {0}
-
-node-says : (width n i x : ℕ) → Says width (nodeOf width n i x)
-unfolding nodeOf testNode namesNode nothingNode Says
-node-says width n i x =
-    cases (eqb (bits 31 28 x) 8)
-    (λ t8. cases (eqb (bits 22 16 x) 0 and ltb (bits 27 23 x) width and leb (i + 2) (bits 15 0 x) and leb (bits 15 0 x) n)
-    (λ t. rw (t8, t) (ltb-true _ _ (and-r _ (and-l _ (and-l _ t)))))
-    (λ t. rw (t8, t) tt))
-    (λ t8. cases (eqb (bits 31 28 x) 9)
-    (λ t9. cases (eqb (bits 27 8 x) 0) (λ t. rw (t8, t9, t) (part-lt x 0 8)) (λ t. rw (t8, t9, t) tt))
-    (λ t9. cases (eqb (bits 31 28 x) 10)
-    (λ t10. cases (eqb (bits 27 0 x) 0) (λ t. rw (t8, t9, t10, t) tt) (λ t. rw (t8, t9, t10, t) tt))
-    (λ t10. rw (t8, t9, t10) tt)))
 
 -- ---- a tree that the words hold from index i on
 
@@ -220,7 +194,7 @@ module _ (es : List Entry) (ws : List ℕ) (width n : ℕ) where
       record {
         held = test b (zs .held) (os .held);
         right = (f, zs .right, os .right);
-        sound = (w, zs .sound, os .sound);
+        sound = (w .0, zs .sound, os .sound);
         stands = rw q (d, zs .stands, os .stands);
         ends = omega (arith, os .ends);
       }
@@ -273,10 +247,6 @@ module _ (es : List Entry) (ws : List ℕ) (width n : ℕ) where
       (ap At (omega arith))
 
 -- ---- a tree that the checker accepts
-
-header-cases {ℓ} : {G : Type ℓ} (h : Header) → (h ≡ Bad → G) → ((v n : ℕ) → h ≡ Good v n → G) → G
-header-cases Bad f g = f refl
-header-cases (Good v n) f g = g v n refl
 
 ends-there : (o : Ended) (k : ℕ) → endsAt o k ≡ true → o ≡ At k
 ends-there No k e = absurd (false≢true e)

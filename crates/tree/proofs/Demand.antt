@@ -31,7 +31,7 @@ use Rattle.cell.specs.Cell.{start}
 use Rattle.tree.specs.Tree.{Tree, tree, size, asked, named, conflict}
 use Rattle.tree.specs.Written.{written}
 use Rattle.tree.specs.Generate.{fits, judged, generateOf, leftBy, bufferOf}
-use Rattle.flat.specs.Walk.{arrives, path, walkOf}
+use Rattle.flat.specs.Walk.{arrives, path, maskOf, walkOf}
 use Rattle.tree.proofs.Theorem.{tree-right, tree-short, tree-once, tree-conflict, tree-sound, conflict-found}
 use Rattle.tree.proofs.Writing.{length-nodes}
 use Rattle.tree.proofs.Paths.{sound-tree, path-whole, walk-written}
@@ -44,7 +44,7 @@ pub record Right (es : List Entry) (width n : ℕ) (words : List ℕ) (w : ℕ) 
   pub tests : List ℕ
   pub walks : path n words width n w 1 ≡ arrives (named (select es w)) tests
   -- what the walk answers
-  pub answers : walkOf words w ≡ result (record { entry = named (select es w); count = length tests })
+  pub answers : walkOf words w ≡ result (record { entry = named (select es w); count = length tests; mask = maskOf tests })
   -- it names an entry exactly when that claims the word and is more specific than every other entry that does,
   pub selected : (e : ℕ) → (named (select es w) ≡ some e) ↔ Selects es w e
   -- and nothing exactly when no entry claims the word
@@ -68,7 +68,7 @@ named-nothing ambiguous h q = absurd (h refl)
 -- a path of these tests, and the walk that answers so
 pub right-walks : (es : List Entry) (width n : ℕ) (words : List ℕ) (w : ℕ) (tests : List ℕ) → (select es w ≡ ambiguous → ⊥)
     → path n words width n w 1 ≡ arrives (named (select es w)) tests
-    → walkOf words w ≡ result (record { entry = named (select es w); count = length tests })
+    → walkOf words w ≡ result (record { entry = named (select es w); count = length tests; mask = maskOf tests })
     → distinct tests ≡ true → length tests ≤ width → Right es width n words w
 right-walks es width n words w tests clear walks answers once few =
     let selects = names-exactly es w in

@@ -11,22 +11,20 @@ use Rattle.walker.specs.Walked.{said}
 use Rattle.walker.specs.declared.Walked.{Walked}
 use Rattle.walker.specs.declared.Walked.the-variants as walked
 
-back-walk : Option ℕ → ℕ → Walked
-back-walk (some e) n = walked.Entry e n
-back-walk none n = walked.Nothing n
+back-walk : Option ℕ → ℕ → ℕ → Walked
+back-walk (some e) n m = walked.Entry e n m
+back-walk none n m = walked.Nothing n m
 
 back : Outcome Walk → Walked
-back (result a) = back-walk (a .entry) (a .count)
-back (faulty n p) = walked.BadTree
-back (refused n p w) = cond (eqb n 7) walked.TooWide (cond (eqb n 9) (walked.Damaged p) walked.BadTree)
+back (result a) = back-walk (a .entry) (a .count) (a .mask)
+back (faulty n p) = walked.Refused n p
+back (refused n p w) = walked.Refused n p
 
 back-said : (r : Walked) → back (said r) ≡ r
 unfolding back back-walk
-back-said (walked.Entry e n) = refl
-back-said (walked.Nothing n) = refl
-back-said walked.BadTree = refl
-back-said walked.TooWide = refl
-back-said (walked.Damaged i) = refl
+back-said (walked.Entry e n m) = refl
+back-said (walked.Nothing n m) = refl
+back-said (walked.Refused n p) = refl
 
 pub said-one : (r s : Walked) → said r ≡ said s → r ≡ s
 said-one = one-to-one said back back-said

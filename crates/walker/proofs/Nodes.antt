@@ -20,19 +20,19 @@ module _ (width n at x w : ℕ) (r : Node) (is : r ≡ nodeOf width n at x) wher
     pub side : NodeBounds (node.Asks b k) width n at
     side = subst (λ (z : Node). NodeBounds z width n at) e bounds
 
-    pub goes-one : bitAnd (w / 2 ^ b) 1 ≡ 1 → (went.On k ≡ wentOf (nodeOf width n at x) w at) × ((at < k) × (k ≤ n))
+    pub goes-one : bitAnd (w / 2 ^ b) 1 ≡ 1 → (went.On k b ≡ wentOf (nodeOf width n at x) w at) × ((at < k) × (k ≤ n) × (b < 32))
     unfolding wentOf
     goes-one t =
         let s = side in
         let o = sym (bit-shr w b) ∙ eq-eqb (bitAnd (w / 2 ^ b) 1) 1 t in
-        (ap (λ p. went.On (cond p k (at + 1))) (sym o) ∙ goes (node.Asks b k) e, (omega arith, s .3))
+        (ap (λ p. went.On (cond p k (at + 1)) b) (sym o) ∙ goes (node.Asks b k) e, (omega arith, s .3, s .1))
 
-    pub goes-zero : (bitAnd (w / 2 ^ b) 1 ≡ 1 → ⊥) → (went.On (at + 1) ≡ wentOf (nodeOf width n at x) w at) × ((at < at + 1) × (at + 1 ≤ n))
+    pub goes-zero : (bitAnd (w / 2 ^ b) 1 ≡ 1 → ⊥) → (went.On (at + 1) b ≡ wentOf (nodeOf width n at x) w at) × ((at < at + 1) × (at + 1 ≤ n) × (b < 32))
     unfolding wentOf
     goes-zero t =
         let s = side in
         let o = sym (bit-shr w b) ∙ ne-eqb (bitAnd (w / 2 ^ b) 1) 1 t in
-        (ap (λ p. went.On (cond p k (at + 1))) (sym o) ∙ goes (node.Asks b k) e, (omega arith, omega arith))
+        (ap (λ p. went.On (cond p k (at + 1)) b) (sym o) ∙ goes (node.Asks b k) e, (omega arith, omega arith, s .1))
 
   pub goes-names : NodeBounds r width n at → (e : ℕ) → r ≡ node.Names e → (went.Entry e ≡ wentOf (nodeOf width n at x) w at) × (e < 256)
   unfolding wentOf

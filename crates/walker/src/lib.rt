@@ -6,18 +6,16 @@ ghost use mathlib.Core.Path.{_≡_};
 ghost use Prim.Native.Nat.{ℕ, _≤_, _<_};
 ghost use Rattle.words.specs.Bytes.{wordsOf};
 ghost use Rattle.words.specs.Outcome.{causeOf};
-ghost use Rattle.flat.specs.Nodes.{nodeOf};
-ghost use Rattle.flat.specs.Walk.{path as pathOf, ended, walkOf};
-ghost use Rattle.walker.specs.Walked.{said, Small, walkBytes, wentOf, WentBounds};
+ghost use Rattle.flat.specs.Nodes.{headerOf, nodeOf};
+ghost use Rattle.flat.specs.Walk.{path as pathOf, ended, walkOf, maskOrZero};
+ghost use Rattle.walker.specs.Walked.{said, Small, walkBytes, enteredOf, EnteredBounds, wentOf, WentBounds};
 
-// What a walk answers: an entry, or nothing, with the number of tests on the path; or why not: a bad header or length (8),
-// a word with a bit at or above the width (7), a damaged node on the path, by its index (9).
+// What a walk answers: an entry, or nothing, with the number of tests on the path and the mask of the bits tested; or why not, by number
+// and place: a bad header or length (8), a word with a bit at or above the width (7), a damaged node on the path (9, its index).
 pub enum Walked {
-    Entry(u32, u32),
-    Nothing(u32),
-    BadTree,
-    TooWide,
-    Damaged(u32),
+    Entry(u32, u32, u32),
+    Nothing(u32, u32),
+    Refused(u32, u32),
 }
 
 impl Walked {
@@ -26,21 +24,52 @@ impl Walked {
         ensures { λ r. ⌜ r ≡ causeOf (said self) ⌝ }
     {
         match self {
-            Walked::Entry(_, _) => Cause::of(0, 0, 0),
-            Walked::Nothing(_) => Cause::of(0, 0, 0),
-            Walked::BadTree => Cause::of(8, 0, 0),
-            Walked::TooWide => Cause::of(7, 0, 0),
-            Walked::Damaged(index) => Cause::of(9, index, 0),
+            Walked::Entry(_, _, _) => Cause::of(0, 0, 0),
+            Walked::Nothing(_, _) => Cause::of(0, 0, 0),
+            Walked::Refused(number, place) => Cause::of(number, place, 0),
+        }
+    }
+
+    // The mask of the bits tested, 0 when refused.
+    pub fn mask(self) -> u32
+        ensures { λ r. ⌜ r ≡ maskOrZero (said self) ⌝ }
+    {
+        match self {
+            Walked::Entry(_, _, mask) => mask,
+            Walked::Nothing(_, mask) => mask,
+            Walked::Refused(_, _) => 0,
         }
     }
 }
 
-// Where a path goes from a node: on to an index, or it ends.
+// Where a path goes from a node: on to an index, by a bit that it tests, or it ends.
 enum Went {
     Damaged,
-    On(u32),
+    On(u32, u32),
     Entry(u32),
     Nothing,
+}
+
+// What a walk finds before its path: the tree's width and number of nodes; or the number of what refuses, the tree's header (8), then
+// the word (7).
+enum Entered {
+    Open(u32, u32),
+    Refused(u32),
+}
+
+fn enter(first: u32, words: usize, word: u32) -> Entered
+    ensures { λ r. ⌜ r ≡ enteredOf (headerOf first words) word ⌝ }
+    ensures bounds { λ r. ⌜ EnteredBounds r ⌝ }
+{
+    match flat::header_of(first, words) {
+        Header::Bad => Entered::Refused(8),
+        Header::Good(width, nodes) => {
+            if !words::fits(word, width) {
+                return Entered::Refused(7);
+            }
+            Entered::Open(width, nodes)
+        }
+    }
 }
 
 // One node of a word's path: the tree's word x at index at.
@@ -53,9 +82,9 @@ fn pass(x: u32, at: u32, width: u32, nodes: u32, word: u32) -> Went
         Node::Damaged => Went::Damaged,
         Node::Asks(bit, one) => {
             if (word >> bit) & 1 == 1 {
-                return Went::On(one);
+                return Went::On(one, bit);
             }
-            Went::On(at + 1)
+            Went::On(at + 1, bit)
         }
         Node::Names(entry) => Went::Entry(entry),
         Node::Nothing => Went::Nothing,
@@ -70,16 +99,18 @@ fn path(tree: &[u32], width: u32, nodes: u32, word: u32) -> Walked
 {
     let mut at: u32 = 1;
     let mut tests: u32 = 0;
+    let mut mask: u32 = 0;
     loop {
         let went = pass(words::word_at(tree, at as usize), at, width, nodes, word);
         match went {
-            Went::Damaged => return Walked::Damaged(at),
-            Went::On(next) => {
+            Went::Damaged => return Walked::Refused(9, at),
+            Went::On(next, bit) => {
                 at = next;
                 tests += 1;
+                mask |= 1 << bit;
             }
-            Went::Entry(entry) => return Walked::Entry(entry, tests),
-            Went::Nothing => return Walked::Nothing(tests),
+            Went::Entry(entry) => return Walked::Entry(entry, tests, mask),
+            Went::Nothing => return Walked::Nothing(tests, mask),
         }
     }
 }
@@ -92,16 +123,18 @@ fn path_bytes(tree: &[u8], width: u32, nodes: u32, word: u32) -> Walked
 {
     let mut at: u32 = 1;
     let mut passed: u32 = 0;
+    let mut mask: u32 = 0;
     loop {
         let went = pass(words::word_in(tree, at as usize), at, width, nodes, word);
         match went {
-            Went::Damaged => return Walked::Damaged(at),
-            Went::On(next) => {
+            Went::Damaged => return Walked::Refused(9, at),
+            Went::On(next, bit) => {
                 at = next;
                 passed += 1;
+                mask |= 1 << bit;
             }
-            Went::Entry(entry) => return Walked::Entry(entry, passed),
-            Went::Nothing => return Walked::Nothing(passed),
+            Went::Entry(entry) => return Walked::Entry(entry, passed, mask),
+            Went::Nothing => return Walked::Nothing(passed, mask),
         }
     }
 }
@@ -111,15 +144,9 @@ pub fn walk(tree: &[u32], word: u32) -> Walked
     ensures { λ r. ⌜ said r ≡ walkOf (now (tree .entry)) word ⌝ }
     ensures small { λ r. ⌜ Small r ⌝ }
 {
-    let header = flat::header_of(words::word_at(tree, 0), tree.len());
-    match header {
-        Header::Bad => Walked::BadTree,
-        Header::Good(width, nodes) => {
-            if !words::fits(word, width) {
-                return Walked::TooWide;
-            }
-            path(tree, width, nodes, word)
-        }
+    match enter(words::word_at(tree, 0), tree.len(), word) {
+        Entered::Refused(number) => Walked::Refused(number, 0),
+        Entered::Open(width, nodes) => path(tree, width, nodes, word),
     }
 }
 
@@ -129,16 +156,26 @@ pub fn walk_bytes(tree: &[u8], word: u32) -> Walked
     ensures small { λ r. ⌜ Small r ⌝ }
 {
     if tree.len() % 4 != 0 {
-        return Walked::BadTree;
+        return Walked::Refused(8, 0);
     }
-    let header = flat::header_of(words::word_in(tree, 0), tree.len() / 4);
-    match header {
-        Header::Bad => Walked::BadTree,
-        Header::Good(width, nodes) => {
-            if !words::fits(word, width) {
-                return Walked::TooWide;
-            }
-            path_bytes(tree, width, nodes, word)
+    match enter(words::word_in(tree, 0), tree.len() / 4, word) {
+        Entered::Refused(number) => Walked::Refused(number, 0),
+        Entered::Open(width, nodes) => path_bytes(tree, width, nodes, word),
+    }
+}
+
+// The mask alone. (`walk_bytes` has one caller in the library for C, so that it is compiled into it, without the mask.)
+pub fn mask_bytes(tree: &[u8], word: u32) -> u32
+    ensures { λ r. ⌜ r ≡ maskOrZero (walkBytes (now (tree .entry)) word) ⌝ }
+{
+    if tree.len() % 4 != 0 {
+        return 0;
+    }
+    match enter(words::word_in(tree, 0), tree.len() / 4, word) {
+        Entered::Refused(_) => 0,
+        Entered::Open(width, nodes) => {
+            let walked = path_bytes(tree, width, nodes, word);
+            walked.mask()
         }
     }
 }

@@ -41,6 +41,18 @@ and-assoc a =
     (ap (λ (x : ℕ). min x (c % 2)) (odd-and n b) ∙ min-assoc (n % 2) (b % 2) (c % 2) ∙ ap (min (n % 2)) (sym (odd-and b c)))
     ∙ sym (and-step n (bitAnd b c))) a
 
+max-assoc : (a b c : ℕ) → max (max a b) c ≡ max a (max b c)
+max-assoc a b c = omega arith
+
+pub or-assoc : (a b c : ℕ) → bitOr (bitOr a b) c ≡ bitOr a (bitOr b c)
+or-assoc a =
+    bin-ind (λ (n : ℕ). (b c : ℕ) → bitOr (bitOr n b) c ≡ bitOr n (bitOr b c))
+    (λ b c. ap (λ (x : ℕ). bitOr x c) (or-zero-l b) ∙ sym (or-zero-l (bitOr b c)))
+    (λ n ih b c. or-step (bitOr n b) c
+    ∙ join (ap (λ (x : ℕ). bitOr x (c / 2)) (half-or n b) ∙ ih (b / 2) (c / 2) ∙ ap (bitOr (n / 2)) (sym (half-or b c)))
+    (ap (λ (x : ℕ). max x (c % 2)) (odd-or n b) ∙ max-assoc (n % 2) (b % 2) (c % 2) ∙ ap (max (n % 2)) (sym (odd-or b c)))
+    ∙ sym (or-step n (bitOr b c))) a
+
 min-max : (a b c : ℕ) → min a (max b c) ≡ max (min a b) (min a c)
 min-max a b c = omega arith
 

@@ -6,10 +6,10 @@ use Rattle.compare.proofs.paths.tests.Statement.{statement}
 use Rattle.compare.proofs.paths.tests.Tie as tie
 
 abbrev Inv-loop : tie.InvT-loop
-Inv-loop tree w index₀ from₀ count₀ index from count = (1 ≤ index) × (count < index)
+Inv-loop tree w index₀ from₀ count₀ mask₀ index from count mask = (1 ≤ index) × (count < index)
 
 abbrev μ-loop : tie.MeasureT-loop
-μ-loop tree w index₀ from₀ count₀ index from count = length tree - index
+μ-loop tree w index₀ from₀ count₀ mask₀ index from count mask = length tree - index
 
 loop-holds : tie.Need-loop-holds Inv-loop μ-loop
 loop-holds c = search needs
@@ -28,6 +28,9 @@ returns c = search needs
 
 add-count : tie.Need-add-count Inv-loop μ-loop
 add-count c = search needs
+
+asked-requires : tie.Need-asked-requires Inv-loop μ-loop
+asked-requires c κs = search needs
 
 one-side-requires : tie.Need-one-side-requires Inv-loop μ-loop
 one-side-requires c κs = search needs
@@ -59,6 +62,7 @@ tests-spec =
     shared-slice-read-node
     returns
     add-count
+    asked-requires
     one-side-requires
     loop-less
     loop-again

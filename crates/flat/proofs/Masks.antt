@@ -1,0 +1,170 @@
+-- The mask of a walk's tested bits, in any words. Assumes nothing.
+--     mask-bit, mask-ones     its bits are those of the list, and as many
+--     path-alike     a word that agrees on the tested bits goes the same path
+--     path-ones     a path that tests no bit twice has as many tests as its mask has ones
+--     Tested, walk-tested     what a walk that finishes has tested
+--     walk-alike     a word of the width that agrees on the mask is answered the same
+use Prim.Native.Nat.{ℕ, zero, suc, _+_, _^_, _<_}
+use native.Mathlib.Omega.{arith}
+use mathlib.Core.Path.{_≡_, refl, sym, ap, ap₂, _∙_}
+use mathlib.Core.Bool.{true, cond, false≢true}
+use mathlib.Core.List.{List, [], _∷_}
+use mathlib.Core.Option.{Option}
+use lib.Bits.{bitAnd, or-lt}
+use lib.Dec.{eqb, ltb}
+use lib.ListN.{length}
+use lib.Pow.{pow-pos, pow-lt}
+use borrow.Author.Tests.{eq-eqb, ne-eqb, eqb-true, eqb-false, lt-ltb}
+use Rattle.words.specs.Outcome.{Outcome, result, refused}
+use Rattle.words.specs.Tests.{_and_, _or_, isIn, distinct, howMany}
+use Rattle.words.specs.Words.{word, bit}
+use Rattle.words.proofs.Bits.{bit-and, bit-or, bit-none, bit-pow, bit-pow-other}
+use Rattle.words.proofs.Logic.{cases, same, and-i, and-l, and-r, not-t, or-e, or-il, or-ir, howMany-same, howMany-less}
+use Rattle.flat.specs.Nodes.{headerWidth, headerOf, nodeOf}
+use Rattle.flat.specs.Walk.{Ending, arrives, breaks, after, path, maskOf, ones, Walk, ended, enters, walkOf}
+use Rattle.flat.specs.declared.Header.the-variants.{Good}
+use Rattle.flat.specs.declared.Node.the-variants.{Asks}
+use Rattle.flat.proofs.Reading.{header-cases, header-width, node-cases, Says, node-says}
+
+-- ---- the bits of a mask
+
+pow-bit : (b i : ℕ) → bit (2 ^ b) i ≡ eqb i b
+pow-bit b i =
+    cases (eqb i b) (λ t. ap (bit (2 ^ b)) (eqb-true i b t) ∙ bit-pow b ∙ sym t) (λ t. bit-pow-other b i (eqb-false i b t) ∙ sym t)
+
+pub mask-bit : (bs : List ℕ) (i : ℕ) → bit (maskOf bs) i ≡ isIn i bs
+unfolding maskOf isIn
+mask-bit [] i = bit-none i
+mask-bit (b ∷ bs) i = bit-or (2 ^ b) (maskOf bs) i ∙ ap₂ _or_ (pow-bit b i) (mask-bit bs i)
+
+-- of numbers below k, none twice, there are as many as the list has
+count-in : (k : ℕ) (bs : List ℕ) → distinct bs ≡ true → ((i : ℕ) → isIn i bs ≡ true → i < k) → howMany (λ i. isIn i bs) k ≡ length bs
+unfolding howMany isIn distinct _or_
+count-in zero [] d h = refl
+count-in (suc k) [] d h = count-in k [] d (λ i t. absurd (false≢true t))
+count-in k (b ∷ bs) d h =
+    let here : eqb b b or isIn b bs ≡ true = or-il _ (eq-eqb b b refl) in
+    sym (howMany-less (λ i. isIn i (b ∷ bs)) (λ i. isIn i bs) k b (h b here) here (not-t (and-l _ d)) (λ j n. rw (ne-eqb j b n)))
+    ∙ ap suc (count-in k bs (and-r _ d) (λ i t. h i (or-ir (eqb i b) t)))
+
+pub mask-ones : (bs : List ℕ) → distinct bs ≡ true → ((i : ℕ) → isIn i bs ≡ true → i < 32) → ones (maskOf bs) ≡ length bs
+unfolding ones
+mask-ones bs d h = howMany-same (λ i. bit (maskOf bs) i) (λ i. isIn i bs) 32 (λ i l. mask-bit bs i) ∙ count-in 32 bs d h
+
+-- of bits below the width a word of the width is made
+mask-lt : (width : ℕ) (bs : List ℕ) → ((i : ℕ) → isIn i bs ≡ true → i < width) → maskOf bs < 2 ^ width
+unfolding maskOf isIn
+mask-lt width [] h = pow-pos width
+mask-lt width (b ∷ bs) h =
+    or-lt width (2 ^ b) (maskOf bs) (pow-lt (h b (or-il _ (eq-eqb b b refl)))) (mask-lt width bs (λ i t. h i (or-ir _ t)))
+
+-- words that agree on a mask agree on each of its bits
+mask-agree : (v w m b : ℕ) → bitAnd v m ≡ bitAnd w m → bit m b ≡ true → bit v b ≡ bit w b
+mask-agree v w m b e h = same (λ t. one v w e t) (λ t. one w v (sym e) t)
+  where
+    one : (x y : ℕ) → bitAnd x m ≡ bitAnd y m → bit x b ≡ true → bit y b ≡ true
+    one x y q t = and-l _ (sym (bit-and y m b) ∙ ap (λ (z : ℕ). bit z b) (sym q) ∙ bit-and x m b ∙ and-i t h)
+
+-- ---- paths
+
+-- a path that arrives after a test arrives without it
+after-arrives : (b : ℕ) (p : Ending) (e : Option ℕ) (bs : List ℕ) → after b p ≡ arrives e bs → (cs : List ℕ) × (p ≡ arrives e cs) × (bs ≡ b ∷ cs)
+after-arrives b (arrives x cs) e bs h = (cs, cc, cc)
+after-arrives b (breaks n i) e bs h = absurd (let z : _≡_ {A = ℕ} 0 1 = cc in omega arith)
+
+broken : (n i : ℕ) (e : Option ℕ) (bs : List ℕ) → breaks n i ≡ arrives e bs → ⊥
+broken n i e bs h = let z : _≡_ {A = ℕ} 0 1 = cc in omega arith
+
+-- at a leaf nothing is tested
+none-in : (j : ℕ) (bs : List ℕ) (x e : Option ℕ) → arrives x [] ≡ arrives e bs → isIn j bs ≡ true → ⊥
+unfolding isIn
+none-in j bs x e h t = let q : [] ≡ bs = cc in false≢true (rw (← q) at t)
+
+module _ (ws : List ℕ) (width n w : ℕ) where
+  pub path-alike : (v fuel i : ℕ) (e : Option ℕ) (bs : List ℕ) → path fuel ws width n w i ≡ arrives e bs
+      → ((b : ℕ) → isIn b bs ≡ true → bit v b ≡ bit w b) → path fuel ws width n v i ≡ arrives e bs
+  unfolding path isIn
+  path-alike v zero i e bs h a = absurd (broken 9 i e bs h)
+  path-alike v (suc fuel) i e bs h a =
+      node-cases (nodeOf width n i (word ws i))
+      (λ d. absurd (broken 9 i e bs (rw d at h)))
+      (λ b k d.
+      let s = after-arrives b _ e bs (rw d at h) in
+      let here : (j : ℕ) → isIn j (b ∷ s .0) ≡ true → bit v j ≡ bit w j = rw (s .2) at a in
+      rw (d, here b (or-il _ (eq-eqb b b refl)), path-alike v fuel (cond (bit w b) k (i + 1)) e (s .0) (s .1) (λ j t. here j (or-ir _ t))) (ap (arrives e) (sym (s .2))))
+      (λ x d. rw d (rw d at h))
+      (λ d. rw d (rw d at h))
+
+  -- the tested bits are below the width, and below 32
+  path-low : (fuel i : ℕ) (e : Option ℕ) (bs : List ℕ) → path fuel ws width n w i ≡ arrives e bs → (j : ℕ) → isIn j bs ≡ true → (j < width) × (j < 32)
+  unfolding path isIn Says
+  path-low zero i e bs h j t = absurd (broken 9 i e bs h)
+  path-low (suc fuel) i e bs h j t =
+      node-cases (nodeOf width n i (word ws i))
+      (λ d. absurd (broken 9 i e bs (rw d at h)))
+      (λ b k d.
+      let s = after-arrives b _ e bs (rw d at h) in
+      let low : Says width (Asks b k) = rw d at (node-says width n i (word ws i)) in
+      let here : eqb j b or isIn j (s .0) ≡ true = rw (s .2) at t in
+      cases (eqb j b) (λ q. rw (eqb-true j b q) low) (λ q. path-low fuel (cond (bit w b) k (i + 1)) e (s .0) (s .1) j (or-e here q)))
+      (λ x d. absurd (none-in j bs _ e (rw d at h) t))
+      (λ d. absurd (none-in j bs _ e (rw d at h) t))
+
+  pub path-ones : (fuel i : ℕ) (e : Option ℕ) (bs : List ℕ) → path fuel ws width n w i ≡ arrives e bs → distinct bs ≡ true → ones (maskOf bs) ≡ length bs
+  path-ones fuel i e bs h d = mask-ones bs d (λ j t. path-low fuel i e bs h j t .1)
+
+-- ---- walks
+
+-- what a walk that finishes has tested
+pub record Tested (ws : List ℕ) (w : ℕ) (a : Walk) : Type 0 where
+  pub nodes : ℕ
+  -- the bits that its path tests, in order
+  pub tests : List ℕ
+  pub walks : path nodes ws (headerWidth (word ws 0)) nodes w 1 ≡ arrives (a .entry) tests
+  -- the count is their number; a bit of the mask is one exactly if it is one of them, and so is below the width
+  pub counts : a .count ≡ length tests
+  pub marks : (i : ℕ) → bit (a .mask) i ≡ isIn i tests
+  pub narrow : a .mask < 2 ^ (headerWidth (word ws 0))
+
+not-finished : (n p x : ℕ) (a : Walk) → _≡_ {A = Outcome Walk} (refused n p x) (result a) → ⊥
+not-finished n p x a h = let z : _≡_ {A = ℕ} 0 1 = cc in omega arith
+
+ended-path : (p : Ending) (a : Walk) → ended p ≡ result a → (bs : List ℕ) × (p ≡ arrives (a .entry) bs) × (a .count ≡ length bs) × (a .mask ≡ maskOf bs)
+ended-path (arrives e bs) a h = (bs, cc, cc, cc)
+ended-path (breaks n i) a h = absurd (not-finished n i 0 a h)
+
+module _ (ws : List ℕ) (w : ℕ) (a : Walk) (finishes : walkOf ws w ≡ result a) where
+  -- its header is good and w is a word of the width
+  entered : (n : ℕ) × (headerOf (word ws 0) (length ws) ≡ Good (headerWidth (word ws 0)) n) × (ended (path n ws (headerWidth (word ws 0)) n w 1) ≡ result a)
+  unfolding walkOf enters
+  entered =
+      header-cases (headerOf (word ws 0) (length ws))
+      (λ d. absurd (not-finished 8 0 0 a (rw d at finishes)))
+      (λ width n d.
+      let same-width = header-width (word ws 0) (length ws) width n d in
+      rw (← same-width)
+      (cases (ltb w (2 ^ width))
+      (λ t. (n, d, rw (d, t) at finishes))
+      (λ t. absurd (not-finished 7 0 0 a (rw (d, t) at finishes)))))
+
+  pub walk-tested : Tested ws w a
+  walk-tested =
+      let (n, d, k) = entered in
+      let (bs, arrived, counted, masked) = ended-path (path n ws (headerWidth (word ws 0)) n w 1) a k in
+      record {
+        nodes = n;
+        tests = bs;
+        walks = arrived;
+        counts = counted;
+        marks = λ i. ap (λ (m : ℕ). bit m i) masked ∙ mask-bit bs i;
+        narrow = rw masked (mask-lt (headerWidth (word ws 0)) bs (λ j t. path-low ws (headerWidth (word ws 0)) n w n 1 (a .entry) bs arrived j t .0));
+      }
+
+  pub walk-alike : (v : ℕ) → v < 2 ^ (headerWidth (word ws 0)) → bitAnd v (a .mask) ≡ bitAnd w (a .mask) → walkOf ws v ≡ result a
+  unfolding walkOf enters
+  walk-alike v fit e =
+      let (n, d, k) = entered in
+      let (bs, arrived, counted, masked) = ended-path (path n ws (headerWidth (word ws 0)) n w 1) a k in
+      rw (d, lt-ltb v (2 ^ (headerWidth (word ws 0))) fit)
+      (ap ended (path-alike ws (headerWidth (word ws 0)) n w v n 1 (a .entry) bs arrived
+      (λ b q. mask-agree v w (a .mask) b e (ap (λ (m : ℕ). bit m b) masked ∙ mask-bit bs b ∙ q)) ∙ sym arrived) ∙ k)
