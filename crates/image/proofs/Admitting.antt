@@ -13,7 +13,7 @@ use Rattle.words.specs.Tests.{_and_, _or_, allOf}
 use Rattle.words.specs.Words.{word}
 use Rattle.words.proofs.Logic.{cases, and-l, and-r}
 use Rattle.words.specs.Outcome.{Outcome, result, faulty, refused}
-use Rattle.table.specs.Table.{Entry, sizeOf, entriesAt, entryNumber, tableOf}
+use Rattle.table.specs.Table.{Entry, Table, sizeOf, entriesAt, entryNumber, tableOf}
 use Rattle.table.specs.Check.{fine, tableCheck, readTable}
 use Rattle.table.specs.Ready.{Ready}
 use Rattle.table.proofs.Laws.{length-entries}
@@ -148,19 +148,28 @@ module _ (ws tree image : List ℕ) (good : tableCheck ws ≡ fine) where
     unfolding admitted refuseUnless
     chain-ready a = rw (good, t, g, a) refl
 
-  -- the same backwards
-  pub chain-passed : result (tableOf ws .entries) ≡ admitted (readTable ws) tree image
-      → (imageTable (tableOf ws) ≡ true) × (imageGood image ≡ true) × (accepts (tableOf ws .entries) (tableOf ws .width) tree ≡ true)
-  chain-passed e =
-      cases (imageTable (tableOf ws))
-      (λ t. cases (imageGood image)
-      (λ g. cases (accepts (tableOf ws .entries) (tableOf ws .width) tree)
-      (λ a. (t, g, a))
-      (λ a. absurd (apart (e ∙ sym (chain-tree t g a)))))
-      (λ g. absurd (apart (e ∙ sym (chain-image t g)))))
-      (λ t. absurd (apart (e ∙ sym (chain-table t))))
+-- the same backwards
+
+unless-passed : {A : Type 0} (b : Bool) (n : ℕ) (r : Outcome A) (v : A) → refuseUnless b n r ≡ result v → (b ≡ true) × (r ≡ result v)
+unfolding refuseUnless
+unless-passed true n r v e = (refl, e)
+unless-passed false n r v e = absurd (apart (sym e))
+
+pub chain-passed : (r : Outcome Table) (tree image : List ℕ) (es : List Entry) → admitted r tree image ≡ result es
+    → (t : Table) × (r ≡ result t) × (t .entries ≡ es) × (imageTable t ≡ true) × (imageGood image ≡ true) × (accepts (t .entries) (t .width) tree ≡ true)
+unfolding admitted
+chain-passed (result t) tree image es e =
+    let a = unless-passed (imageTable t) 15 _ es e in
+    let b = unless-passed (imageGood image) 16 _ es (a .1) in
+    let c = unless-passed (accepts (t .entries) (t .width) tree) 14 _ es (b .1) in
+    (t, refl, cc, a .0, b .0, c .0)
+chain-passed (faulty n p) tree image es e = absurd (not-faulty (sym e))
+chain-passed (refused n p x) tree image es e = absurd (apart (sym e))
 
 -- ---- what admit answers
+
+read-as : (ws : List ℕ) → tableCheck ws ≡ fine → (t : Table) → readTable ws ≡ result t → tableOf ws ≡ t
+read-as ws good t e = let q : result (tableOf ws) ≡ result t = rw good at e in cc
 
 module _ (ws tree image places : List ℕ) where
   pub admits-faulty : (n p : ℕ) → readTable ws ≡ faulty n p → Admits ws tree image (record { refusal = refusal.Refused n p; places = places })
@@ -173,8 +182,9 @@ module _ (ws tree image places : List ℕ) where
       record {
         answer = e;
         ready =
-            λ k. let c = chain-passed ws tree image (r .good) (sym (ap (λ (x : Refusal). saidRefusal x (tableOf ws .entries)) k) ∙ e) in
-            admits-all ws places width count r tree image (c .0) (c .1) (c .2);
+            λ k. let c = chain-passed (readTable ws) tree image (tableOf ws .entries) (sym e ∙ ap (λ (x : Refusal). saidRefusal x (tableOf ws .entries)) k) in
+            let q : c .0 ≡ tableOf ws = sym (read-as ws (r .good) (c .0) (c .1)) in
+            admits-all ws places width count r tree image (rw q at (c .3)) (c .4) (rw q at (c .5));
       }
 
 -- ---- a listing and a step, by what admit answers
