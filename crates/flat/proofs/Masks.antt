@@ -15,10 +15,11 @@ use lib.Dec.{eqb, ltb}
 use lib.ListN.{length}
 use lib.Pow.{pow-pos, pow-lt}
 use borrow.Author.Tests.{eq-eqb, ne-eqb, eqb-true, eqb-false, lt-ltb}
-use Rattle.words.specs.Outcome.{Outcome, result, refused}
-use Rattle.words.specs.Tests.{_and_, _or_, isIn, distinct, howMany}
+use Rattle.words.specs.Outcome.{result}
+use Rattle.words.specs.Tests.{_or_, isIn, distinct, howMany}
 use Rattle.words.specs.Words.{word, bit}
 use Rattle.words.proofs.Bits.{bit-and, bit-or, bit-none, bit-pow, bit-pow-other}
+use Rattle.words.proofs.Outcomes.{not-refused}
 use Rattle.words.proofs.Logic.{cases, same, and-i, and-l, and-r, not-t, or-e, or-il, or-ir, howMany-same, howMany-less}
 use Rattle.flat.specs.Nodes.{headerWidth, headerOf, nodeOf}
 use Rattle.flat.specs.Walk.{Ending, arrives, breaks, after, path, maskOf, ones, Walk, ended, enters, walkOf}
@@ -126,12 +127,9 @@ pub record Tested (ws : List ℕ) (w : ℕ) (a : Walk) : Type 0 where
   pub marks : (i : ℕ) → bit (a .mask) i ≡ isIn i tests
   pub narrow : a .mask < 2 ^ (headerWidth (word ws 0))
 
-not-finished : (n p x : ℕ) (a : Walk) → _≡_ {A = Outcome Walk} (refused n p x) (result a) → ⊥
-not-finished n p x a h = let z : _≡_ {A = ℕ} 0 1 = cc in omega arith
-
 ended-path : (p : Ending) (a : Walk) → ended p ≡ result a → (bs : List ℕ) × (p ≡ arrives (a .entry) bs) × (a .count ≡ length bs) × (a .mask ≡ maskOf bs)
 ended-path (arrives e bs) a h = (bs, cc, cc, cc)
-ended-path (breaks n i) a h = absurd (not-finished n i 0 a h)
+ended-path (breaks n i) a h = absurd (not-refused (sym h))
 
 module _ (ws : List ℕ) (w : ℕ) (a : Walk) (finishes : walkOf ws w ≡ result a) where
   -- its header is good and w is a word of the width
@@ -139,13 +137,13 @@ module _ (ws : List ℕ) (w : ℕ) (a : Walk) (finishes : walkOf ws w ≡ result
   unfolding walkOf enters
   entered =
       header-cases (headerOf (word ws 0) (length ws))
-      (λ d. absurd (not-finished 8 0 0 a (rw d at finishes)))
+      (λ d. absurd (not-refused (sym (rw d at finishes))))
       (λ width n d.
       let same-width = header-width (word ws 0) (length ws) width n d in
       rw (← same-width)
       (cases (ltb w (2 ^ width))
       (λ t. (n, d, rw (d, t) at finishes))
-      (λ t. absurd (not-finished 7 0 0 a (rw (d, t) at finishes)))))
+      (λ t. absurd (not-refused (sym (rw (d, t) at finishes))))))
 
   pub walk-tested : Tested ws w a
   walk-tested =

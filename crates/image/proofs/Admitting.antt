@@ -11,7 +11,8 @@ use lib.ListN.{length, getD, drop, drop-of-length-le}
 use lib.Seq.{drop-cons}
 use Rattle.words.specs.Tests.{_and_, _or_, allOf}
 use Rattle.words.specs.Words.{word}
-use Rattle.words.proofs.Logic.{cases, and-l, and-r}
+use Rattle.words.proofs.Logic.{and-l, and-r}
+use Rattle.words.proofs.Outcomes.{not-refused, not-faulty}
 use Rattle.words.specs.Outcome.{Outcome, result, faulty, refused}
 use Rattle.table.specs.Table.{Entry, Table, sizeOf, entriesAt, entryNumber, tableOf}
 use Rattle.table.specs.Check.{fine, tableCheck, readTable}
@@ -34,13 +35,6 @@ use Rattle.image.specs.Address.{wordAt, halfwords}
 use Rattle.image.specs.Items.{itemAt, items}
 use Rattle.image.specs.Listing.{imageSize, imageTable, imageGood, refuseUnless, admitted, listFrom, listOf, bufferFrom, bufferOf, saidList, Lists, stepAt, stepFrom, stepOf, saidStep}
 use Rattle.image.specs.Parts.{Admitted, saidRefusal, Admits, Fills}
-
--- a result is no refusal
-apart : {n p x : ℕ} {A : Type 0} {v : A} → result v ≡ refused n p x → ⊥
-apart e = let z : _≡_ {A = ℕ} 0 1 = cc in omega arith
-
-not-faulty : {n p : ℕ} {A : Type 0} {v : A} → result v ≡ faulty n p → ⊥
-not-faulty e = let z : _≡_ {A = ℕ} 0 1 = cc in omega arith
 
 -- ---- 15: the entries' lengths, one by one
 
@@ -104,10 +98,10 @@ verdictOf b = cond b (result tt) (refused 14 0 0)
 
 said-yes : (b : Bool) → result tt ≡ verdictOf b → true ≡ b
 said-yes true e = refl
-said-yes false e = absurd (apart e)
+said-yes false e = absurd (not-refused e)
 
 said-no : (b : Bool) (n p x : ℕ) → refused n p x ≡ verdictOf b → false ≡ b
-said-no true n p x e = absurd (apart (sym e))
+said-no true n p x e = absurd (not-refused (sym e))
 said-no false n p x e = refl
 
 said-faulty : (b : Bool) (n p : ℕ) → faulty n p ≡ verdictOf b → false ≡ b
@@ -153,7 +147,7 @@ module _ (ws tree image : List ℕ) (good : tableCheck ws ≡ fine) where
 unless-passed : {A : Type 0} (b : Bool) (n : ℕ) (r : Outcome A) (v : A) → refuseUnless b n r ≡ result v → (b ≡ true) × (r ≡ result v)
 unfolding refuseUnless
 unless-passed true n r v e = (refl, e)
-unless-passed false n r v e = absurd (apart (sym e))
+unless-passed false n r v e = absurd (not-refused (sym e))
 
 pub chain-passed : (r : Outcome Table) (tree image : List ℕ) (es : List Entry) → admitted r tree image ≡ result es
     → (t : Table) × (r ≡ result t) × (t .entries ≡ es) × (imageTable t ≡ true) × (imageGood image ≡ true) × (accepts (t .entries) (t .width) tree ≡ true)
@@ -164,7 +158,7 @@ chain-passed (result t) tree image es e =
     let c = unless-passed (accepts (t .entries) (t .width) tree) 14 _ es (b .1) in
     (t, refl, cc, a .0, b .0, c .0)
 chain-passed (faulty n p) tree image es e = absurd (not-faulty (sym e))
-chain-passed (refused n p x) tree image es e = absurd (apart (sym e))
+chain-passed (refused n p x) tree image es e = absurd (not-refused (sym e))
 
 -- ---- what admit answers
 

@@ -9,7 +9,6 @@ use Rattle.table.specs.Worked.{worked}
 use Rattle.selection.proofs.Examples.{looks}
 use Rattle.tree.proofs.Examples.{verdict}
 use Rattle.image.specs.declared.HalfwordAddress.{HalfwordAddress}
-use Rattle.image.specs.declared.Item.{Item}
 use Rattle.image.specs.Address.{halfwordAt, wordAt}
 use Rattle.image.specs.Items.{pickedBy, picked, foundWord, nothingWord, cutWord, itemOf, itemAt, itemsFrom, items}
 use Rattle.flat.specs.Walk.{path, maskOf, enters, walkOf}

@@ -2,22 +2,23 @@
 --   `walker::walk` answers `walkOf words w` and `walker::walk_bytes` `walkBytes bytes w`, which `kilnumber_walk` packs; `kilnumber_mask` answers
 --   `maskOrZero (walkBytes bytes w)`, `tree::check` `checkOf (readTable ws) words`, `image::step` `stepOf (readTable ws) words image at`.
 --     tested-bits, refused-zero     the mask
---     accepted-ones     the count is the number of its ones
---     alike, accepted-alike, alike-bytes     words that agree on it
+--     accepted-ones, generated-ones     the count is the number of its ones
+--     alike, accepted-alike, generated-alike, alike-bytes     words that agree on it
 --     handed-on     what a step hands on
 use Prim.Native.Nat.{ℕ, _+_, _*_, _%_, _^_, _<_}
 use native.Mathlib.Omega.{arith}
 use mathlib.Core.Path.{_≡_, refl, sym, ap, _∙_}
 use mathlib.Core.Bool.{true}
 use mathlib.Core.List.{List}
-use mathlib.Core.Option.{Option, none, some}
+use mathlib.Core.Option.{none, some}
 use lib.Bits.{bitAnd}
 use lib.Dec.{eqb, leb}
-use lib.ListN.{length, getD}
+use lib.ListN.{length, getD, take}
 use borrow.Author.Tests.{eqb-true}
 use Rattle.words.specs.Bytes.{wordsOf}
 use Rattle.words.specs.Outcome.{Outcome, result, faulty, refused}
 use Rattle.words.specs.Words.{word}
+use Rattle.words.proofs.Outcomes.{not-refused, not-faulty}
 use Rattle.words.proofs.Logic.{cases, and-l}
 use Rattle.table.specs.Table.{Entry, Table}
 use Rattle.table.specs.Check.{readTable}
@@ -28,25 +29,19 @@ use Rattle.flat.proofs.Masks.{Tested, walk-tested, walk-alike, path-ones}
 use Rattle.flat.proofs.Reading.{header-width}
 use Rattle.tree.specs.Tree.{named}
 use Rattle.tree.specs.Checker.{accepts, checkOf}
-use Rattle.tree.proofs.Demand.{Right}
-use Rattle.tree.proofs.Accepting.{accepted, accepted-right}
+use Rattle.tree.specs.Generate.{generateOf, bufferOf}
+use Rattle.tree.proofs.Accepting.{accepted, accepted-right, generated-accepted}
 use Rattle.walker.specs.Walked.{walkBytes}
-use Rattle.walker.proofs.Headers.{whole-bytes}
 use Rattle.image.specs.Address.{halfwordAt, wordAt, halfwords}
 use Rattle.image.specs.Items.{itemAt}
 use Rattle.image.specs.Listing.{imageTable, admitted, Step, stepAt, stepFrom, stepOf}
 use Rattle.image.specs.declared.HalfwordAddress.{HalfwordAddress}
 use Rattle.image.proofs.Admitting.{chain-passed}
 
--- a result is no refusal
-apart : {A : Type 0} {n p x : ℕ} {v : A} → _≡_ {A = Outcome A} (refused n p x) (result v) → ⊥
-apart e = let z : _≡_ {A = ℕ} 0 1 = cc in omega arith
+-- ---- the mask
 
-not-faulty : {A : Type 0} {n p : ℕ} {v : A} → _≡_ {A = Outcome A} (faulty n p) (result v) → ⊥
-not-faulty e = let z : _≡_ {A = ℕ} 0 1 = cc in omega arith
-
--- ---- "The walk returns, beside its count, a 32-bit mask of the bits tested": in any words, of a walk that finishes; a bit of the mask is
--- one exactly if the path tests it
+-- "The walk returns, beside its count, a 32-bit mask of the bits tested": in any words, of a walk that finishes. A bit of the mask is one
+-- exactly if the path tests it
 pub tested-bits : (words : List ℕ) (w : ℕ) (a : Walk) → walkOf words w ≡ result a → Tested words w a
 tested-bits = walk-tested
 
@@ -54,39 +49,52 @@ tested-bits = walk-tested
 pub refused-zero : (bytes : List ℕ) (w n p x : ℕ) → walkBytes bytes w ≡ refused n p x → maskOrZero (walkBytes bytes w) ≡ 0
 refused-zero bytes w n p x e = ap maskOrZero e
 
--- ---- "The count is the number of ones in the mask on every tree that the checker accepts"
+-- ---- the count, and words that agree on the mask
+
+-- in any words, where the walk of w finishes: a word of the width that agrees with w on its mask gets the same entry or nothing, the same
+-- count and the same mask
+pub alike : (words : List ℕ) (w v : ℕ) (a : Walk) → walkOf words w ≡ result a → v < 2 ^ (headerWidth (word words 0))
+    → bitAnd v (a .mask) ≡ bitAnd w (a .mask) → walkOf words v ≡ result a
+alike words w v a e = walk-alike words w a e v
 
 check-accepts : (t : Table) (words : List ℕ) → checkOf (result t) words ≡ result tt → accepts (t .entries) (t .width) words ≡ true
 unfolding checkOf
-check-accepts t words e = cases (accepts (t .entries) (t .width) words) (λ y. y) (λ n. absurd (apart (rw n at e)))
+check-accepts t words e = cases (accepts (t .entries) (t .width) words) (λ y. y) (λ n. absurd (not-refused (sym (rw n at e))))
 
+-- a tree that the checker accepts for a table
 module _ (ws words : List ℕ) (t : Table) (reads : readTable ws ≡ result t) (checked : checkOf (readTable ws) words ≡ result tt) where
   yes : accepts (t .entries) (t .width) words ≡ true
   yes = check-accepts t words (ap (λ (r : Outcome Table). checkOf r words) (sym reads) ∙ checked)
 
-  -- every word of the width finishes, names what is selected, and has as many tests as ones in its mask
+  wide : t .width ≡ headerWidth (word words 0)
+  wide = header-width (word words 0) (length words) _ _ (accepted (t .entries) (t .width) words yes .header)
+
+  -- "The count is the number of ones in the mask on every tree that the checker accepts": each word of the width finishes so
   pub accepted-ones : (w : ℕ) → w < 2 ^ (t .width) → (a : Walk) × (walkOf words w ≡ result a) × (a .entry ≡ named (select (t .entries) w)) × (a .count ≡ ones (a .mask))
   accepted-ones w h =
       let r = accepted-right (t .entries) (t .width) words yes w h in
       (_, r .answers, refl, sym (path-ones words (t .width) _ w _ 1 _ (r .tests) (r .walks) (r .once)))
 
--- ---- "On such a tree two words of the width that agree on the mask get the same answer"
-
--- in any words, where the one's walk finishes: entry or nothing, count and mask
-pub alike : (words : List ℕ) (w v : ℕ) (a : Walk) → walkOf words w ≡ result a → v < 2 ^ (headerWidth (word words 0))
-    → bitAnd v (a .mask) ≡ bitAnd w (a .mask) → walkOf words v ≡ result a
-alike words w v a e = walk-alike words w a e v
-
-module _ (ws words : List ℕ) (t : Table) (reads : readTable ws ≡ result t) (checked : checkOf (readTable ws) words ≡ result tt) where
-  -- so on a tree that the checker accepts
+  -- "On such a tree two words of the width that agree on the mask get the same answer"
   pub accepted-alike : (w v : ℕ) → w < 2 ^ (t .width) → v < 2 ^ (t .width) → bitAnd v (maskOrZero (walkOf words w)) ≡ bitAnd w (maskOrZero (walkOf words w))
       → walkOf words v ≡ walkOf words w
   accepted-alike w v h k e =
-      let (a, finishes, names-it, counts) = accepted-ones ws words t reads checked w h in
-      let wide : t .width ≡ headerWidth (word words 0) = header-width (word words 0) (length words) _ _ (accepted (t .entries) (t .width) words (yes ws words t reads checked) .header) in
+      let (a, finishes, names-it, counts) = accepted-ones w h in
       alike words w v a finishes (rw (← wide) k) (rw finishes at e) ∙ sym finishes
 
--- and for C, on any bytes: what a cache keeps of a walk that was not refused, by the word and its mask
+-- so it is with each tree that generating writes, which is accepted
+module _ (ws out : List ℕ) (t : Table) (reads : readTable ws ≡ result t) (n : ℕ) (generated : generateOf (readTable ws) (length out) ≡ result n) where
+  abbrev tree-words : List ℕ
+  tree-words = take n (bufferOf (readTable ws) out)
+
+  pub generated-ones : (w : ℕ) → w < 2 ^ (t .width) → (a : Walk) × (walkOf tree-words w ≡ result a) × (a .entry ≡ named (select (t .entries) w)) × (a .count ≡ ones (a .mask))
+  generated-ones = accepted-ones ws tree-words t reads (generated-accepted ws out t reads n generated .1)
+
+  pub generated-alike : (w v : ℕ) → w < 2 ^ (t .width) → v < 2 ^ (t .width) → bitAnd v (maskOrZero (walkOf tree-words w)) ≡ bitAnd w (maskOrZero (walkOf tree-words w))
+      → walkOf tree-words v ≡ walkOf tree-words w
+  generated-alike = accepted-alike ws tree-words t reads (generated-accepted ws out t reads n generated .1)
+
+-- and for C, on any bytes: what a cache may answer from a walk that was not refused
 pub alike-bytes : (bytes : List ℕ) (w v : ℕ) (a : Walk) → walkBytes bytes w ≡ result a → v < 2 ^ (headerWidth (word (wordsOf bytes) 0))
     → bitAnd v (maskOrZero (walkBytes bytes w)) ≡ bitAnd w (maskOrZero (walkBytes bytes w)) → walkBytes bytes v ≡ walkBytes bytes w
 unfolding walkBytes
@@ -95,7 +103,7 @@ alike-bytes bytes w v a e h q =
     (λ t. let finishes : walkOf (wordsOf bytes) w ≡ result a = rw t at e in
     let agree : bitAnd v (maskOrZero (walkOf (wordsOf bytes) w)) ≡ bitAnd w (maskOrZero (walkOf (wordsOf bytes) w)) = rw t at q in
     rw t (alike (wordsOf bytes) w v a finishes h (rw finishes at agree) ∙ sym finishes))
-    (λ t. absurd (apart (rw t at e)))
+    (λ t. absurd (not-refused (sym (rw t at e))))
 
 -- ---- "each step of the lister hands on its item's mask"
 
@@ -124,8 +132,8 @@ stepped (result es) tree image at s e =
     cases (leb (halfwords image) (at .0))
     (λ t. let q : result none ≡ result (some s) = rw t at e in absurd (let z : _≡_ {A = ℕ} 0 1 = cc in omega arith))
     (λ t. let q : result (some (stepAt es tree image at)) ≡ result (some s) = rw t at e in (es, refl, cc))
-stepped (faulty n p) tree image at s e = absurd (not-faulty e)
-stepped (refused n p x) tree image at s e = absurd (apart e)
+stepped (faulty n p) tree image at s e = absurd (not-faulty (sym e))
+stepped (refused n p x) tree image at s e = absurd (not-refused (sym e))
 
 pub handed-on : (ws tree image : List ℕ) (at : HalfwordAddress) (s : Step) → ((i : ℕ) → getD image i 0 < 2 ^ 8)
     → stepOf (readTable ws) tree image at ≡ result (some s) → Handed ws tree image at s

@@ -6,13 +6,13 @@ use Prim.Native.Nat.{ℕ, _+_, _*_, _/_, _%_, _^_, _<_}
 use native.Mathlib.Omega.{arith}
 use lib.ListN.{length, take}
 use Rattle.words.specs.Bytes.{wordOf, wordsOf}
-use Rattle.words.specs.Outcome.{Outcome, result}
+use Rattle.words.specs.Outcome.{result}
 use Rattle.table.specs.Table.{Entry, Table}
 use Rattle.table.specs.Check.{readTable}
 use Rattle.selection.specs.Selection.{select}
 use Rattle.tree.specs.Tree.{tree, size, named}
 use Rattle.tree.specs.Generate.{generateOf, bufferOf}
-use Rattle.flat.specs.Walk.{Walk, walkOf}
+use Rattle.flat.specs.Walk.{walkOf}
 use Rattle.tree.proofs.Demand.{Right, walk-right}
 use Rattle.walker.specs.Walked.{walkBytes}
 use Rattle.walker.proofs.Headers.{whole-bytes}

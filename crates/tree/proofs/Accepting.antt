@@ -12,14 +12,13 @@ use mathlib.Core.Bool.{Bool, true, false, not, false≢true}
 use mathlib.Core.List.{List, [], _∷_, _++_, append-assoc}
 use mathlib.Core.Option.{Option, none, some, orElse}
 use lib.Bits.{and-zero-r}
-use lib.Dec.{eqb, ltb, leb}
+use lib.Dec.{eqb}
 use lib.ListN.{length, length-append, take}
 use lib.Seq.{getD-at}
-use borrow.Author.Tests.{eq-eqb, eqb-true, ltb-true, leb-true, lt-ltb}
+use borrow.Author.Tests.{eq-eqb, eqb-true, leb-true, lt-ltb}
 use Rattle.words.specs.Tests.{_and_}
 use Rattle.words.specs.Words.{word, bit, bits}
 use Rattle.words.proofs.Logic.{cases, and-i, and-l, and-r, not-t, howMany-le}
-use Rattle.words.proofs.Parts.{part-lt}
 use Rattle.table.specs.Lawful.{goodTable}
 use Rattle.table.specs.Table.{Entry, Table}
 use Rattle.table.specs.Check.{readTable}
@@ -27,11 +26,10 @@ use Rattle.words.specs.Outcome.{result}
 use Rattle.choice.specs.Rule.{Choice, names, nothing, ambiguous, judge}
 use Rattle.selection.specs.Selection.{claims, select}
 use Rattle.choice.proofs.Judging.{answers, judge-names, judge-nothing}
-use Rattle.flat.specs.Nodes.{headerOf, nodeOf, testNode, namesNode, nothingNode}
-use Rattle.flat.specs.declared.Header.{Header}
-use Rattle.flat.specs.declared.Header.the-variants.{Bad, Good}
+use Rattle.flat.specs.Nodes.{headerOf, nodeOf}
+use Rattle.flat.specs.declared.Header.the-variants.{Good}
 use Rattle.flat.specs.declared.Node.{Node}
-use Rattle.flat.specs.declared.Node.the-variants.{Damaged, Asks, Names, Nothing}
+use Rattle.flat.specs.declared.Node.the-variants.{Asks, Names, Nothing}
 use Rattle.cell.specs.Cell.{Cell, start, zeroSide, oneSide, live, sure}
 use Rattle.cell.specs.Step.{free}
 use Rattle.tree.specs.Tree.{Tree, leaf, test, below, tree, size, answer, asked, conflict, ifConflict, named}

@@ -18,6 +18,7 @@ use lib.Seq.{take-at}
 use Rattle.words.specs.Tests.{distinct}
 use Rattle.words.specs.Words.{word}
 use Rattle.words.proofs.Logic.{cases, and-r, options}
+use Rattle.words.proofs.Outcomes.{not-refused}
 use Rattle.words.specs.Outcome.{Outcome, result, refused}
 use Rattle.table.specs.Table.{Entry, Table, countOf, tableOf}
 use Rattle.table.specs.Check.{Check, fine, fault, tableCheck, reading, readTable}
@@ -113,9 +114,6 @@ read-sane ws t e = let r = reading-is (tableCheck ws) (tableOf ws) t e in subst 
 
 -- ---- what an answer of generating tells of the tree
 
-not-result : (m w n : ℕ) → _≡_ {A = Outcome ℕ} (refused m 0 w) (result n) → ⊥
-not-result m w n e = let z : _≡_ {A = ℕ} 0 1 = cc in omega arith
-
 not-full : (w : ℕ) → _≡_ {A = Outcome ℕ} (refused 5 0 0) (refused 6 0 w) → ⊥
 not-full w e = let z : _≡_ {A = ℕ} 5 6 = cc in omega arith
 
@@ -125,12 +123,12 @@ module _ (t : Tree) (room : ℕ) where
   judged-result none n e =
       cases (fits t room)
       (λ f. (f, refl, let q : result (size t + 1) ≡ result n = rw f at e in cc))
-      (λ f. absurd (not-result 5 0 n (rw f at e)))
-  judged-result (some w) n e = absurd (cases (fits t room) (λ f. not-result 6 w n (rw f at e)) (λ f. not-result 5 0 n (rw f at e)))
+      (λ f. absurd (not-refused (sym (rw f at e))))
+  judged-result (some w) n e = absurd (cases (fits t room) (λ f. not-refused (sym (rw f at e))) (λ f. not-refused (sym (rw f at e))))
 
   judged-clash : (o : Option ℕ) (w : ℕ) → judged t room o ≡ refused 6 0 w → o ≡ some w
   unfolding judged
-  judged-clash none w e = absurd (cases (fits t room) (λ f. not-result 6 w (size t + 1) (sym (rw f at e))) (λ f. not-full w (rw f at e)))
+  judged-clash none w e = absurd (cases (fits t room) (λ f. not-refused (rw f at e)) (λ f. not-full w (rw f at e)))
   judged-clash (some v) w e =
       cases (fits t room)
       (λ f. let q : _≡_ {A = Outcome ℕ} (refused 6 0 v) (refused 6 0 w) = rw f at e in let z : v ≡ w = cc in ap some z)

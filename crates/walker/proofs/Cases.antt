@@ -1,9 +1,7 @@
 -- Each case of a walk's answer says another thing, so that the promise fixes the answer itself. Assumes nothing.
 use mathlib.Core.Path.{_≡_, refl}
-use mathlib.Core.Bool.{cond}
 use mathlib.Core.Option.{Option, none, some}
 use Prim.Native.Nat.{ℕ}
-use lib.Dec.{eqb}
 use Rattle.words.specs.Outcome.{Outcome, result, faulty, refused}
 use Rattle.words.proofs.Logic.{one-to-one}
 use Rattle.flat.specs.Walk.{Walk}

@@ -1,9 +1,9 @@
 -- A walk by what its header says. Assumes nothing.
 use Prim.Native.Nat.{ℕ, _/_, _%_, _^_}
-use mathlib.Core.Path.{_≡_, sym, ap, ap₂, _∙_}
+use mathlib.Core.Path.{_≡_, refl, sym, ap, ap₂, _∙_}
 use mathlib.Core.List.{List}
 use native.Mathlib.Omega.{arith}
-use lib.Dec.{ltb}
+use lib.Dec.{eqb, ltb}
 use lib.ListN.{length}
 use borrow.Author.Tests.{eq-eqb, ne-eqb}
 use Rattle.words.specs.Words.{word}
@@ -15,7 +15,7 @@ use Rattle.flat.specs.Nodes.{headerOf, saidHeader}
 use Rattle.flat.specs.Walk.{path, ended, enters, walkOf}
 use Rattle.flat.specs.declared.Header.{Header}
 use Rattle.flat.specs.declared.Header.the-variants.{Bad, Good}
-use Rattle.walker.specs.Walked.{walkBytes, enteredOf}
+use Rattle.walker.specs.Walked.{walkBytes, enteredOf, enteredBytes}
 use Rattle.walker.specs.declared.Entered.{Entered}
 use Rattle.walker.specs.declared.Entered.the-variants as entered
 
@@ -40,31 +40,46 @@ open-by (Good v n) ws w width nodes e =
     (λ t. let q : entered.Refused 7 ≡ entered.Open width nodes = rw t at e in absurd (let z : _≡_ {A = ℕ} 0 1 = cc in omega arith))
 
 -- a tree that was entered by its first word x
-module _ (ws : List ℕ) (w x n : ℕ) (r : Entered) (first : x ≡ word ws 0) (size : n ≡ length ws) (is : r ≡ enteredOf (headerOf x n) w) where
-  whole : r ≡ enteredOf (headerOf (word ws 0) (length ws)) w
-  whole = is ∙ ap₂ (λ (y k : ℕ). enteredOf (headerOf y k) w) first size
+module _ (ws : List ℕ) (w x : ℕ) (r : Entered) (first : x ≡ word ws 0) (is : r ≡ enteredOf (headerOf x (length ws)) w) where
+  by-header : r ≡ enteredOf (headerOf (word ws 0) (length ws)) w
+  by-header = is ∙ ap (λ (y : ℕ). enteredOf (headerOf y (length ws)) w) first
 
   pub shut : (number : ℕ) → r ≡ entered.Refused number → refused number 0 0 ≡ walkOf ws w
   unfolding walkOf
-  shut number e = shut-by (headerOf (word ws 0) (length ws)) ws w number (sym whole ∙ e)
+  shut number e = shut-by (headerOf (word ws 0) (length ws)) ws w number (sym by-header ∙ e)
 
   pub walks : (width nodes : ℕ) → r ≡ entered.Open width nodes → ended (path nodes ws width nodes w 1) ≡ walkOf ws w
   unfolding walkOf
-  walks width nodes e = open-by (headerOf (word ws 0) (length ws)) ws w width nodes (sym whole ∙ e)
+  walks width nodes e = open-by (headerOf (word ws 0) (length ws)) ws w width nodes (sym by-header ∙ e)
 
--- bytes
-pub odd-bytes : (bytes : List ℕ) (w : ℕ) → (length bytes % 4 ≡ 0 → ⊥) → refused 8 0 0 ≡ walkBytes bytes w
-unfolding walkBytes
-odd-bytes bytes w h = rw (ne-eqb (length bytes % 4) 0 h)
+-- ---- bytes
 
 -- a tree of whole words is walked as these
 pub whole-bytes : (bytes : List ℕ) (w : ℕ) → length bytes % 4 ≡ 0 → walkOf (wordsOf bytes) w ≡ walkBytes bytes w
 unfolding walkBytes
 whole-bytes bytes w h = rw (eq-eqb (length bytes % 4) 0 h)
 
-module _ (bytes : List ℕ) (w x : ℕ) (r : Entered) (whole-words : length bytes % 4 ≡ 0) (first : x ≡ word (wordsOf bytes) 0) (is : r ≡ enteredOf (headerOf x (length bytes / 4)) w) where
+pub enters-odd : (bytes : List ℕ) (w : ℕ) → (length bytes % 4 ≡ 0 → ⊥) → entered.Refused 8 ≡ enteredBytes bytes w
+unfolding enteredBytes
+enters-odd bytes w h = rw (ne-eqb (length bytes % 4) 0 h)
+
+pub enters-whole : (bytes : List ℕ) (w x : ℕ) (r : Entered) → length bytes % 4 ≡ 0 → x ≡ word (wordsOf bytes) 0 → r ≡ enteredOf (headerOf x (length bytes / 4)) w
+    → r ≡ enteredBytes bytes w
+unfolding enteredBytes
+enters-whole bytes w x r h first is =
+    is ∙ rw (eq-eqb (length bytes % 4) 0 h) (ap₂ (λ (y k : ℕ). enteredOf (headerOf y k) w) first (sym (words-length bytes)))
+
+module _ (bytes : List ℕ) (w : ℕ) (r : Entered) (is : r ≡ enteredBytes bytes w) where
   pub shut-bytes : (number : ℕ) → r ≡ entered.Refused number → refused number 0 0 ≡ walkBytes bytes w
-  shut-bytes number e = shut (wordsOf bytes) w x (length bytes / 4) r first (sym (words-length bytes)) is number e ∙ whole-bytes bytes w whole-words
+  unfolding enteredBytes walkBytes
+  shut-bytes number e =
+      cases (eqb (length bytes % 4) 0)
+      (λ t. let k : r ≡ enteredOf (headerOf (word (wordsOf bytes) 0) (length (wordsOf bytes))) w = is ∙ rw t in rw t (shut (wordsOf bytes) w _ r refl k number e))
+      (λ t. let k : entered.Refused 8 ≡ entered.Refused number = sym (is ∙ rw t) ∙ e in let q : 8 ≡ number = cc in rw t (ap (λ (m : ℕ). refused m 0 0) (sym q)))
 
   pub walks-bytes : (width nodes : ℕ) → r ≡ entered.Open width nodes → ended (path nodes (wordsOf bytes) width nodes w 1) ≡ walkBytes bytes w
-  walks-bytes width nodes e = walks (wordsOf bytes) w x (length bytes / 4) r first (sym (words-length bytes)) is width nodes e ∙ whole-bytes bytes w whole-words
+  unfolding enteredBytes walkBytes
+  walks-bytes width nodes e =
+      cases (eqb (length bytes % 4) 0)
+      (λ t. let k : r ≡ enteredOf (headerOf (word (wordsOf bytes) 0) (length (wordsOf bytes))) w = is ∙ rw t in rw t (walks (wordsOf bytes) w _ r refl k width nodes e))
+      (λ t. let k : entered.Refused 8 ≡ entered.Open width nodes = sym (is ∙ rw t) ∙ e in absurd (let z : _≡_ {A = ℕ} 0 1 = cc in omega arith))

@@ -5,10 +5,11 @@ use mathlib.Core.List.{List}
 use mathlib.Core.Option.{none, some}
 use lib.Dec.{eqb, ltb}
 use lib.ListN.{length}
-use Rattle.words.specs.Words.{bit}
+use Rattle.words.specs.Words.{word, bit}
 use Rattle.words.specs.Bytes.{wordsOf}
 use Rattle.words.specs.Outcome.{Outcome, result, refused}
 use Rattle.flat.specs.Walk.{Walk, walkOf}
+use Rattle.flat.specs.Nodes.{headerOf}
 use Rattle.flat.specs.declared.Header.{Header}
 use Rattle.flat.specs.declared.Header.the-variants.{Bad, Good}
 use Rattle.flat.specs.declared.Node.{Node}
@@ -42,6 +43,10 @@ Small (walked.Refused n p) = (n < 256) × (p < 65536)
 unfoldable pub enteredOf : Header → ℕ → Entered
 enteredOf Bad w = entered.Refused 8
 enteredOf (Good width n) w = cond (ltb w (2 ^ width)) (entered.Open width n) (entered.Refused 7)
+
+unfoldable pub enteredBytes : List ℕ → ℕ → Entered
+enteredBytes bytes w =
+    cond (eqb (length bytes % 4) 0) (enteredOf (headerOf (word (wordsOf bytes) 0) (length (wordsOf bytes))) w) (entered.Refused 8)
 
 -- there are nodes, and fewer than 65,536
 abbrev pub EnteredBounds : Entered → Type 0

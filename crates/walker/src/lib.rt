@@ -8,7 +8,7 @@ ghost use Rattle.words.specs.Bytes.{wordsOf};
 ghost use Rattle.words.specs.Outcome.{causeOf};
 ghost use Rattle.flat.specs.Nodes.{headerOf, nodeOf};
 ghost use Rattle.flat.specs.Walk.{path as pathOf, ended, walkOf, maskOrZero};
-ghost use Rattle.walker.specs.Walked.{said, Small, walkBytes, enteredOf, EnteredBounds, wentOf, WentBounds};
+ghost use Rattle.walker.specs.Walked.{said, Small, walkBytes, enteredOf, enteredBytes, EnteredBounds, wentOf, WentBounds};
 
 // What a walk answers: an entry, or nothing, with the number of tests on the path and the mask of the bits tested; or why not, by number
 // and place: a bad header or length (8), a word with a bit at or above the width (7), a damaged node on the path (9, its index).
@@ -72,6 +72,17 @@ fn enter(first: u32, words: usize, word: u32) -> Entered
     }
 }
 
+// The same of a tree that is given as bytes; a length that is no multiple of four is 8 too.
+fn enter_bytes(tree: &[u8], word: u32) -> Entered
+    ensures { λ r. ⌜ r ≡ enteredBytes (now (tree .entry)) word ⌝ }
+    ensures bounds { λ r. ⌜ EnteredBounds r ⌝ }
+{
+    if tree.len() % 4 != 0 {
+        return Entered::Refused(8);
+    }
+    enter(words::word_in(tree, 0), tree.len() / 4, word)
+}
+
 // One node of a word's path: the tree's word x at index at.
 fn pass(x: u32, at: u32, width: u32, nodes: u32, word: u32) -> Went
     ensures { λ r. ⌜ r ≡ wentOf (nodeOf width nodes at x) word at ⌝ }
@@ -123,7 +134,7 @@ fn path_bytes(tree: &[u8], width: u32, nodes: u32, word: u32) -> Walked
 {
     let mut at: u32 = 1;
     let mut passed: u32 = 0;
-    let mut mask: u32 = 0;
+    let mut tested: u32 = 0;
     loop {
         let went = pass(words::word_in(tree, at as usize), at, width, nodes, word);
         match went {
@@ -131,10 +142,10 @@ fn path_bytes(tree: &[u8], width: u32, nodes: u32, word: u32) -> Walked
             Went::On(next, bit) => {
                 at = next;
                 passed += 1;
-                mask |= 1 << bit;
+                tested |= 1 << bit;
             }
-            Went::Entry(entry) => return Walked::Entry(entry, passed, mask),
-            Went::Nothing => return Walked::Nothing(passed, mask),
+            Went::Entry(entry) => return Walked::Entry(entry, passed, tested),
+            Went::Nothing => return Walked::Nothing(passed, tested),
         }
     }
 }
@@ -155,23 +166,17 @@ pub fn walk_bytes(tree: &[u8], word: u32) -> Walked
     ensures { λ r. ⌜ said r ≡ walkBytes (now (tree .entry)) word ⌝ }
     ensures small { λ r. ⌜ Small r ⌝ }
 {
-    if tree.len() % 4 != 0 {
-        return Walked::Refused(8, 0);
-    }
-    match enter(words::word_in(tree, 0), tree.len() / 4, word) {
+    match enter_bytes(tree, word) {
         Entered::Refused(number) => Walked::Refused(number, 0),
         Entered::Open(width, nodes) => path_bytes(tree, width, nodes, word),
     }
 }
 
-// The mask alone. (`walk_bytes` has one caller in the library for C, so that it is compiled into it, without the mask.)
+// Its mask alone. (The library for C has one call of `walk_bytes`, so that it is compiled there without what that call does not need.)
 pub fn mask_bytes(tree: &[u8], word: u32) -> u32
     ensures { λ r. ⌜ r ≡ maskOrZero (walkBytes (now (tree .entry)) word) ⌝ }
 {
-    if tree.len() % 4 != 0 {
-        return 0;
-    }
-    match enter(words::word_in(tree, 0), tree.len() / 4, word) {
+    match enter_bytes(tree, word) {
         Entered::Refused(_) => 0,
         Entered::Open(width, nodes) => {
             let walked = path_bytes(tree, width, nodes, word);

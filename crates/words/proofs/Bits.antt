@@ -1,15 +1,15 @@
 -- Laws of the bits of a number: of and, of or, of a power of two; numbers with the same bits are the same. Assumes nothing.
-use Prim.Native.Nat.{ℕ, zero, suc, _≤_, _<_, _+_, _-_, _*_, _/_, _%_, _^_, min, max, suc-le-suc}
+use Prim.Native.Nat.{ℕ, zero, suc, _≤_, _<_, _+_, _*_, _/_, _%_, _^_, min, max, suc-le-suc}
 use native.Mathlib.Omega.{arith}
-use native.Mathlib.Nat.{mod-lt, pow-suc, pow-zero, div-one, min-zero, div-add-mod', not-suc-le-zero, le-refl, zero-lt-suc}
+use native.Mathlib.Nat.{mod-lt, pow-suc, pow-zero, div-one, min-zero, div-add-mod', zero-lt-suc}
 use native.Mathlib.Numerals.{one-add}
-use mathlib.Core.Path.{_≡_, refl, sym, ap, ap₂, _∙_, subst}
+use mathlib.Core.Path.{_≡_, refl, sym, ap, ap₂, _∙_}
 use mathlib.Core.Logic.{_⊎_, inl, inr}
-use mathlib.Core.Bool.{Bool, true, false, not, cond}
-use lib.Bits.{bitAnd, bitOr, and-step, or-step, and-zero-l, and-zero-r, or-zero-l, or-zero-r, and-comm, or-comm, or-shr, and-shr, and-mask, and-le-l}
-use lib.Pow.{shr-shr, pow-pos}
-use borrow.Author.Tests.{eqb-true, eqb-false, eq-eqb, ne-eqb}
-use Rattle.words.proofs.Logic.{cases, clash, isTrue, isFalse, and-l, and-r, and-i, not-t, not-it, exists-at, exists-none, or-il, or-ir, or-i}
+use mathlib.Core.Bool.{true, false, not, cond}
+use lib.Bits.{bitAnd, bitOr, and-step, or-step, and-zero-r, or-zero-l, or-shr, and-shr, and-mask, and-le-l}
+use lib.Pow.{shr-shr}
+use borrow.Author.Tests.{eqb-true, eq-eqb}
+use Rattle.words.proofs.Logic.{cases, clash, isTrue, and-l, and-r, and-i, not-t, not-it, exists-at, exists-none}
 use lib.Arith.{bin-ind}
 use lib.Dec.{eqb}
 use Rattle.words.specs.Tests.{_and_, _or_, exists}

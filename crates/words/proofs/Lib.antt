@@ -1,4 +1,5 @@
 pub mod Logic
+pub mod Outcomes
 pub mod Lists
 pub mod Bits
 pub mod Parts

@@ -12,11 +12,11 @@ use Rattle.walker.proofs.path_bytes.Statement.{statement}
 use Rattle.walker.proofs.path_bytes.Tie as tie
 
 abbrev Inv-loop : tie.InvT-loop
-Inv-loop tree width nodes word at₀ passed₀ mask₀ at passed mask =
-    (1 ≤ at) × (at ≤ nodes) × (passed < at) × (ended (path nodes (wordsOf tree) width nodes word 1) ≡ plus passed mask (ended (path (nodes - passed) (wordsOf tree) width nodes word at)))
+Inv-loop tree width nodes word at₀ passed₀ tested₀ at passed tested =
+    (1 ≤ at) × (at ≤ nodes) × (passed < at) × (ended (path nodes (wordsOf tree) width nodes word 1) ≡ plus passed tested (ended (path (nodes - passed) (wordsOf tree) width nodes word at)))
 
 abbrev μ-loop : tie.MeasureT-loop
-μ-loop tree width nodes word at₀ passed₀ mask₀ at passed mask = nodes - passed
+μ-loop tree width nodes word at₀ passed₀ tested₀ at passed tested = nodes - passed
 
 loop-holds : tie.Need-loop-holds Inv-loop μ-loop
 loop-holds c =
@@ -42,7 +42,7 @@ returns c =
     let l = c .before .before .before .before .loop in
     let a = c .before .before .before .before .before .before .args in
     let e = ap (λ (x : ℕ). wentOf (nodeOf (a .width) (a .nodes) (l .at) x) (a .word) (l .at)) (sym (c .before .before .before .word-in .ensures)) ∙ sym (q .pass .ensures .0) in
-    (sym (l .inv .3 ∙ ends-damaged (wordsOf (a .tree .now)) (a .width) (a .nodes) (a .word) (l .at) (l .passed) (l .mask) (omega arith) (e ∙ c .enum-told .given .1)), (omega arith, omega arith))
+    (sym (l .inv .3 ∙ ends-damaged (wordsOf (a .tree .now)) (a .width) (a .nodes) (a .word) (l .at) (l .passed) (l .tested) (omega arith) (e ∙ c .enum-told .given .1)), (omega arith, omega arith))
 
 enum-known-went : tie.Need-enum-known-went Inv-loop μ-loop
 enum-known-went c = search needs
@@ -50,8 +50,8 @@ enum-known-went c = search needs
 add-passed : tie.Need-add-passed Inv-loop μ-loop
 add-passed c = search needs
 
-shl-mask : tie.Need-shl-mask Inv-loop μ-loop
-shl-mask c =
+shl-tested : tie.Need-shl-tested Inv-loop μ-loop
+shl-tested c =
     let q = c .before .before .before in
     let l = c .before .before .before .before .before .loop in
     let a = c .before .before .before .before .before .before .before .args in
@@ -67,7 +67,7 @@ loop-again c =
     let a = c .before .before .before .before .before .before .before .args in
     let e = ap (λ (x : ℕ). wentOf (nodeOf (a .width) (a .nodes) (l .at) x) (a .word) (l .at)) (sym (c .before .before .before .before .word-in .ensures)) ∙ sym (q .pass .ensures .0) in
     let b = subst (λ (x : Went). WentBounds x (a .nodes) (l .at)) (c .before .went .given .1) (q .pass .ensures .1) in
-    (omega (arith, b .0), b .1, omega (arith, b .0), l .inv .3 ∙ goes-on (wordsOf (a .tree .now)) (a .width) (a .nodes) (a .word) (l .at) (l .passed) (l .mask) (omega arith) _ _ (b .2) (e ∙ c .before .went .given .1))
+    (omega (arith, b .0), b .1, omega (arith, b .0), l .inv .3 ∙ goes-on (wordsOf (a .tree .now)) (a .width) (a .nodes) (a .word) (l .at) (l .passed) (l .tested) (omega arith) _ _ (b .2) (e ∙ c .before .went .given .1))
 
 enum-known-went-2 : tie.Need-enum-known-went-2 Inv-loop μ-loop
 enum-known-went-2 c = search needs
@@ -79,7 +79,7 @@ returns-2 c =
     let a = c .before .before .before .before .before .before .before .args in
     let e = ap (λ (x : ℕ). wentOf (nodeOf (a .width) (a .nodes) (l .at) x) (a .word) (l .at)) (sym (c .before .before .before .before .word-in .ensures)) ∙ sym (q .pass .ensures .0) in
     let b = subst (λ (x : Went). WentBounds x (a .nodes) (l .at)) (c .before .went2 .given .1) (q .pass .ensures .1) in
-    (sym (l .inv .3 ∙ ends-entry (wordsOf (a .tree .now)) (a .width) (a .nodes) (a .word) (l .at) (l .passed) (l .mask) (omega arith) _ (e ∙ c .before .went2 .given .1)), (b, omega arith))
+    (sym (l .inv .3 ∙ ends-entry (wordsOf (a .tree .now)) (a .width) (a .nodes) (a .word) (l .at) (l .passed) (l .tested) (omega arith) _ (e ∙ c .before .went2 .given .1)), (b, omega arith))
 
 enum-told-2 : tie.Need-enum-told-2 Inv-loop μ-loop
 enum-told-2 c = search needs
@@ -90,7 +90,7 @@ returns-3 c =
     let l = c .before .before .before .before .loop in
     let a = c .before .before .before .before .before .before .args in
     let e = ap (λ (x : ℕ). wentOf (nodeOf (a .width) (a .nodes) (l .at) x) (a .word) (l .at)) (sym (c .before .before .before .word-in .ensures)) ∙ sym (q .pass .ensures .0) in
-    (sym (l .inv .3 ∙ ends-nothing (wordsOf (a .tree .now)) (a .width) (a .nodes) (a .word) (l .at) (l .passed) (l .mask) (omega arith) (e ∙ c .enum-told2 .given .1)), omega arith)
+    (sym (l .inv .3 ∙ ends-nothing (wordsOf (a .tree .now)) (a .width) (a .nodes) (a .word) (l .at) (l .passed) (l .tested) (omega arith) (e ∙ c .enum-told2 .given .1)), omega arith)
 
 pub path-bytes-spec : {M : Type 1} → statement M
 path-bytes-spec =
@@ -106,7 +106,7 @@ path-bytes-spec =
     returns
     enum-known-went
     add-passed
-    shl-mask
+    shl-tested
     loop-less
     loop-again
     enum-known-went-2
