@@ -52,7 +52,7 @@ fn walks(tree: &[u32], w: u32, expected: u32) -> bool {
         Walked::Nothing(count, mask) => {
             expected == others::NOTHING && are_tests(tree, w, count, mask)
         }
-        Walked::Refused(_, _) => false,
+        Walked::Unfinished(_, _) => false,
     }
 }
 

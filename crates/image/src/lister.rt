@@ -74,7 +74,7 @@ fn pick(table: &[u32], places: &[u32; 256], tree: &[u32], w: u32) -> Picked
             Picked::Long(e as u8)
         }
         Walked::Nothing(_, _) => Picked::Nothing,
-        Walked::Refused(_, _) => Picked::Nothing,
+        Walked::Unfinished(_, _) => Picked::Nothing,
     }
 }
 

@@ -20,7 +20,7 @@ fn pack(answer: Walked) -> u64
     match answer {
         Walked::Entry(entry, count, _) => (entry as u64) + (count as u64) * 65536,
         Walked::Nothing(count, _) => 256 + (count as u64) * 65536,
-        Walked::Refused(number, place) => {
+        Walked::Unfinished(number, place) => {
             (number as u64) * 4294967296 + (place as u64) * 281474976710656
         }
     }

@@ -15,14 +15,14 @@ back-walk none n m = walked.Nothing n m
 
 back : Outcome Walk → Walked
 back (result a) = back-walk (a .entry) (a .count) (a .mask)
-back (faulty n p) = walked.Refused n p
-back (refused n p w) = walked.Refused n p
+back (faulty n p) = walked.Unfinished n p
+back (refused n p w) = walked.Unfinished n p
 
 back-said : (r : Walked) → back (said r) ≡ r
 unfolding back back-walk
 back-said (walked.Entry e n m) = refl
 back-said (walked.Nothing n m) = refl
-back-said (walked.Refused n p) = refl
+back-said (walked.Unfinished n p) = refl
 
 pub said-one : (r s : Walked) → said r ≡ said s → r ≡ s
 said-one = one-to-one said back back-said

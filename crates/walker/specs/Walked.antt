@@ -25,7 +25,7 @@ use Rattle.walker.specs.declared.Went.the-variants as went
 abbrev pub said : Walked → Outcome Walk
 said (walked.Entry e n m) = result (record { entry = some e; count = n; mask = m })
 said (walked.Nothing n m) = result (record { entry = none; count = n; mask = m })
-said (walked.Refused n p) = refused n p 0
+said (walked.Unfinished n p) = refused n p 0
 
 -- "with the tree as bytes, each word low byte first; a length not a multiple of four gives 8"
 unfoldable pub walkBytes : List ℕ → ℕ → Outcome Walk
@@ -35,23 +35,23 @@ walkBytes bytes w = cond (eqb (length bytes % 4) 0) (walkOf (wordsOf bytes) w) (
 abbrev pub Small : Walked → Type 0
 Small (walked.Entry e n m) = (e < 256) × (n < 65536)
 Small (walked.Nothing n m) = n < 65536
-Small (walked.Refused n p) = (n < 256) × (p < 65536)
+Small (walked.Unfinished n p) = (n < 256) × (p < 65536)
 
 -- ---- before the path
 
 -- "Walking: 8, 7, 9": the first two, by the header
 unfoldable pub enteredOf : Header → ℕ → Entered
-enteredOf Bad w = entered.Refused 8
-enteredOf (Good width n) w = cond (ltb w (2 ^ width)) (entered.Open width n) (entered.Refused 7)
+enteredOf Bad w = entered.Shut 8
+enteredOf (Good width n) w = cond (ltb w (2 ^ width)) (entered.Open width n) (entered.Shut 7)
 
 unfoldable pub enteredBytes : List ℕ → ℕ → Entered
 enteredBytes bytes w =
-    cond (eqb (length bytes % 4) 0) (enteredOf (headerOf (word (wordsOf bytes) 0) (length (wordsOf bytes))) w) (entered.Refused 8)
+    cond (eqb (length bytes % 4) 0) (enteredOf (headerOf (word (wordsOf bytes) 0) (length (wordsOf bytes))) w) (entered.Shut 8)
 
 -- there are nodes, and fewer than 65,536
 abbrev pub EnteredBounds : Entered → Type 0
 EnteredBounds (entered.Open width n) = (1 ≤ n) × (n < 65536)
-EnteredBounds (entered.Refused number) = number < 256
+EnteredBounds (entered.Shut number) = number < 256
 
 -- ---- one node
 

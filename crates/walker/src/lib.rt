@@ -15,7 +15,7 @@ ghost use Rattle.walker.specs.Walked.{said, Small, walkBytes, enteredOf,
 pub enum Walked {
     Entry(u32, u32, u32),
     Nothing(u32, u32),
-    Refused(u32, u32),
+    Unfinished(u32, u32),
 }
 
 impl Walked {
@@ -26,7 +26,7 @@ impl Walked {
         match self {
             Walked::Entry(_, _, _) => Cause::of(0, 0, 0),
             Walked::Nothing(_, _) => Cause::of(0, 0, 0),
-            Walked::Refused(number, place) => Cause::of(number, place, 0),
+            Walked::Unfinished(number, place) => Cause::of(number, place, 0),
         }
     }
 
@@ -37,7 +37,7 @@ impl Walked {
         match self {
             Walked::Entry(_, _, mask) => mask,
             Walked::Nothing(_, mask) => mask,
-            Walked::Refused(_, _) => 0,
+            Walked::Unfinished(_, _) => 0,
         }
     }
 }
@@ -54,7 +54,7 @@ enum Went {
 // the word (7).
 enum Entered {
     Open(u32, u32),
-    Refused(u32),
+    Shut(u32),
 }
 
 fn enter(first: u32, words: usize, word: u32) -> Entered
@@ -62,10 +62,10 @@ fn enter(first: u32, words: usize, word: u32) -> Entered
     ensures bounds { λ r. ⌜ EnteredBounds r ⌝ }
 {
     match flat::header_of(first, words) {
-        Header::Bad => Entered::Refused(8),
+        Header::Bad => Entered::Shut(8),
         Header::Good(width, nodes) => {
             if !words::fits(word, width) {
-                return Entered::Refused(7);
+                return Entered::Shut(7);
             }
             Entered::Open(width, nodes)
         }
@@ -78,7 +78,7 @@ fn enter_bytes(tree: &[u8], word: u32) -> Entered
     ensures bounds { λ r. ⌜ EnteredBounds r ⌝ }
 {
     if tree.len() % 4 != 0 {
-        return Entered::Refused(8);
+        return Entered::Shut(8);
     }
     enter(words::word_in(tree, 0), tree.len() / 4, word)
 }
@@ -114,7 +114,7 @@ fn path(tree: &[u32], width: u32, nodes: u32, word: u32) -> Walked
     loop {
         let went = pass(words::word_at(tree, at as usize), at, width, nodes, word);
         match went {
-            Went::Damaged => return Walked::Refused(9, at),
+            Went::Damaged => return Walked::Unfinished(9, at),
             Went::On(next, bit) => {
                 at = next;
                 tests += 1;
@@ -138,7 +138,7 @@ fn path_bytes(tree: &[u8], width: u32, nodes: u32, word: u32) -> Walked
     loop {
         let went = pass(words::word_in(tree, at as usize), at, width, nodes, word);
         match went {
-            Went::Damaged => return Walked::Refused(9, at),
+            Went::Damaged => return Walked::Unfinished(9, at),
             Went::On(next, bit) => {
                 at = next;
                 passed += 1;
@@ -156,7 +156,7 @@ pub fn walk(tree: &[u32], word: u32) -> Walked
     ensures small { λ r. ⌜ Small r ⌝ }
 {
     match enter(words::word_at(tree, 0), tree.len(), word) {
-        Entered::Refused(number) => Walked::Refused(number, 0),
+        Entered::Shut(number) => Walked::Unfinished(number, 0),
         Entered::Open(width, nodes) => path(tree, width, nodes, word),
     }
 }
@@ -167,7 +167,7 @@ pub fn walk_bytes(tree: &[u8], word: u32) -> Walked
     ensures small { λ r. ⌜ Small r ⌝ }
 {
     match enter_bytes(tree, word) {
-        Entered::Refused(number) => Walked::Refused(number, 0),
+        Entered::Shut(number) => Walked::Unfinished(number, 0),
         Entered::Open(width, nodes) => path_bytes(tree, width, nodes, word),
     }
 }
@@ -177,7 +177,7 @@ pub fn mask_bytes(tree: &[u8], word: u32) -> u32
     ensures { λ r. ⌜ r ≡ maskOrZero (walkBytes (now (tree .entry)) word) ⌝ }
 {
     match enter_bytes(tree, word) {
-        Entered::Refused(_) => 0,
+        Entered::Shut(_) => 0,
         Entered::Open(width, nodes) => {
             let walked = path_bytes(tree, width, nodes, word);
             walked.mask()
