@@ -1,13 +1,15 @@
 -- The mask of a walk's tested bits, in any words. Assumes nothing.
---     mask-bit, mask-ones     its bits are those of the list, and as many
+--     mask-bit, mask-ones     its bits are those of the list; they are as many exactly if none is in it twice
 --     path-alike     a word that agrees on the tested bits goes the same path
---     path-ones     a path that tests no bit twice has as many tests as its mask has ones
+--     path-ones     a path has as many tests as its mask has ones exactly if it tests no bit twice
 --     Tested, walk-tested     what a walk that finishes has tested
 --     walk-alike     a word of the width that agrees on the mask is answered the same
-use Prim.Native.Nat.{ℕ, zero, suc, _+_, _^_, _<_}
+use Prim.Native.Nat.{ℕ, zero, suc, _+_, _^_, _≤_, _<_}
+use native.Mathlib.Nat.{le-of-eq}
 use native.Mathlib.Omega.{arith}
 use mathlib.Core.Path.{_≡_, refl, sym, ap, ap₂, _∙_}
-use mathlib.Core.Bool.{true, cond, false≢true}
+use mathlib.Core.Bool.{true, false, not, cond, false≢true, true≢false}
+use mathlib.Core.Logic.{_↔_}
 use mathlib.Core.List.{List, [], _∷_}
 use mathlib.Core.Option.{Option}
 use lib.Bits.{bitAnd, or-lt}
@@ -38,19 +40,63 @@ unfolding maskOf isIn
 mask-bit [] i = bit-none i
 mask-bit (b ∷ bs) i = bit-or (2 ^ b) (maskOf bs) i ∙ ap₂ _or_ (pow-bit b i) (mask-bit bs i)
 
--- of numbers below k, none twice, there are as many as the list has
-count-in : (k : ℕ) (bs : List ℕ) → distinct bs ≡ true → ((i : ℕ) → isIn i bs ≡ true → i < k) → howMany (λ i. isIn i bs) k ≡ length bs
-unfolding howMany isIn distinct _or_
-count-in zero [] d h = refl
-count-in (suc k) [] d h = count-in k [] d (λ i t. absurd (false≢true t))
-count-in k (b ∷ bs) d h =
-    let here : eqb b b or isIn b bs ≡ true = or-il _ (eq-eqb b b refl) in
-    sym (howMany-less (λ i. isIn i (b ∷ bs)) (λ i. isIn i bs) k b (h b here) here (not-t (and-l _ d)) (λ j n. rw (ne-eqb j b n)))
-    ∙ ap suc (count-in k bs (and-r _ d) (λ i t. h i (or-ir (eqb i b) t)))
+nothing-in : (k : ℕ) → howMany (λ i. isIn i []) k ≡ 0
+unfolding howMany isIn
+nothing-in zero = refl
+nothing-in (suc k) = nothing-in k
 
-pub mask-ones : (bs : List ℕ) → distinct bs ≡ true → ((i : ℕ) → isIn i bs ≡ true → i < 32) → ones (maskOf bs) ≡ length bs
-unfolding ones
-mask-ones bs d h = howMany-same (λ i. bit (maskOf bs) i) (λ i. isIn i bs) 32 (λ i l. mask-bit bs i) ∙ count-in 32 bs d h
+-- numbers below k: as many as the list has exactly if none is in it twice
+module _ (k : ℕ) where
+  abbrev Below : List ℕ → Type 0
+  Below bs = (i : ℕ) → isIn i bs ≡ true → i < k
+
+  unfoldable among : List ℕ → ℕ
+  among bs = howMany (λ i. isIn i bs) k
+
+  rest-below : (b : ℕ) (bs : List ℕ) → Below (b ∷ bs) → Below bs
+  unfolding isIn
+  rest-below b bs h i t = h i (or-ir (eqb i b) t)
+
+  -- one that is not among the others is one more; one that is, is none
+  among-new : (b : ℕ) (bs : List ℕ) → Below (b ∷ bs) → isIn b bs ≡ false → among (b ∷ bs) ≡ suc (among bs)
+  unfolding among isIn _or_
+  among-new b bs h f =
+      let here : eqb b b or isIn b bs ≡ true = or-il _ (eq-eqb b b refl) in
+      sym (howMany-less (λ i. isIn i (b ∷ bs)) (λ i. isIn i bs) k b (h b here) here f (λ j n. rw (ne-eqb j b n)))
+
+  among-old : (b : ℕ) (bs : List ℕ) → isIn b bs ≡ true → among (b ∷ bs) ≡ among bs
+  unfolding among isIn _or_
+  among-old b bs t =
+      howMany-same (λ i. isIn i (b ∷ bs)) (λ i. isIn i bs) k
+      (λ i l. cases (eqb i b) (λ q. rw q (sym (ap (λ (j : ℕ). isIn j bs) (eqb-true i b q) ∙ t))) (λ q. rw q))
+
+  among-le : (bs : List ℕ) → Below bs → among bs ≤ length bs
+  unfolding among
+  among-le [] h = le-of-eq (nothing-in k)
+  among-le (b ∷ bs) h =
+      let r = among-le bs (rest-below b bs h) in
+      cases (isIn b bs) (λ t. omega (arith, among-old b bs t)) (λ f. omega (arith, among-new b bs h f))
+
+  among-once : (bs : List ℕ) → Below bs → (among bs ≡ length bs) ↔ (distinct bs ≡ true)
+  unfolding distinct among
+  among-once [] h = (λ e. refl, λ e. nothing-in k)
+  among-once (b ∷ bs) h =
+      let below = rest-below b bs h in
+      let rest = among-once bs below in
+      let few = among-le bs below in
+      cases (isIn b bs)
+      (λ t. (λ e. absurd (omega (arith, among-old b bs t)), λ d. absurd (true≢false (sym t ∙ not-t (and-l _ d)))))
+      (λ f. (
+        λ e. and-i (ap not f) (rest .0 (omega (arith, among-new b bs h f))),
+        λ d. among-new b bs h f ∙ ap suc (rest .1 (and-r _ d)),
+      ))
+
+pub mask-ones : (bs : List ℕ) → ((i : ℕ) → isIn i bs ≡ true → i < 32) → (length bs ≡ ones (maskOf bs)) ↔ (distinct bs ≡ true)
+unfolding ones among
+mask-ones bs h =
+    let same-ones = howMany-same (λ i. bit (maskOf bs) i) (λ i. isIn i bs) 32 (λ i l. mask-bit bs i) in
+    let once = among-once 32 bs h in
+    (λ e. once .0 (sym (e ∙ same-ones)), λ d. sym (same-ones ∙ once .1 d))
 
 -- of bits below the width a word of the width is made
 mask-lt : (width : ℕ) (bs : List ℕ) → ((i : ℕ) → isIn i bs ≡ true → i < width) → maskOf bs < 2 ^ width
@@ -111,14 +157,15 @@ module _ (ws : List ℕ) (width n w : ℕ) where
       (λ x d. absurd (none-in j bs _ e (rw d at h) t))
       (λ d. absurd (none-in j bs _ e (rw d at h) t))
 
-  pub path-ones : (fuel i : ℕ) (e : Option ℕ) (bs : List ℕ) → path fuel ws width n w i ≡ arrives e bs → distinct bs ≡ true → ones (maskOf bs) ≡ length bs
-  path-ones fuel i e bs h d = mask-ones bs d (λ j t. path-low fuel i e bs h j t .1)
+  pub path-ones : (fuel i : ℕ) (e : Option ℕ) (bs : List ℕ) → path fuel ws width n w i ≡ arrives e bs → (length bs ≡ ones (maskOf bs)) ↔ (distinct bs ≡ true)
+  path-ones fuel i e bs h = mask-ones bs (λ j t. path-low fuel i e bs h j t .1)
 
 -- ---- walks
 
 -- what a walk that finishes has tested
 pub record Tested (ws : List ℕ) (w : ℕ) (a : Walk) : Type 0 where
   pub nodes : ℕ
+  pub header : headerOf (word ws 0) (length ws) ≡ Good (headerWidth (word ws 0)) nodes
   -- the bits that its path tests, in order
   pub tests : List ℕ
   pub walks : path nodes ws (headerWidth (word ws 0)) nodes w 1 ≡ arrives (a .entry) tests
@@ -126,6 +173,8 @@ pub record Tested (ws : List ℕ) (w : ℕ) (a : Walk) : Type 0 where
   pub counts : a .count ≡ length tests
   pub marks : (i : ℕ) → bit (a .mask) i ≡ isIn i tests
   pub narrow : a .mask < 2 ^ (headerWidth (word ws 0))
+  -- the count is the number of ones in the mask exactly if no bit is tested twice
+  pub once : (a .count ≡ ones (a .mask)) ↔ (distinct tests ≡ true)
 
 ended-path : (p : Ending) (a : Walk) → ended p ≡ result a → (bs : List ℕ) × (p ≡ arrives (a .entry) bs) × (a .count ≡ length bs) × (a .mask ≡ maskOf bs)
 ended-path (arrives e bs) a h = (bs, cc, cc, cc)
@@ -149,13 +198,16 @@ module _ (ws : List ℕ) (w : ℕ) (a : Walk) (finishes : walkOf ws w ≡ result
   walk-tested =
       let (n, d, k) = entered in
       let (bs, arrived, counted, masked) = ended-path (path n ws (headerWidth (word ws 0)) n w 1) a k in
+      let as-many = path-ones ws (headerWidth (word ws 0)) n w n 1 (a .entry) bs arrived in
       record {
         nodes = n;
+        header = d;
         tests = bs;
         walks = arrived;
         counts = counted;
         marks = λ i. ap (λ (m : ℕ). bit m i) masked ∙ mask-bit bs i;
         narrow = rw masked (mask-lt (headerWidth (word ws 0)) bs (λ j t. path-low ws (headerWidth (word ws 0)) n w n 1 (a .entry) bs arrived j t .0));
+        once = (λ e. as-many .0 (sym counted ∙ e ∙ ap ones masked), λ d. counted ∙ as-many .1 d ∙ ap ones (sym masked));
       }
 
   pub walk-alike : (v : ℕ) → v < 2 ^ (headerWidth (word ws 0)) → bitAnd v (a .mask) ≡ bitAnd w (a .mask) → walkOf ws v ≡ result a

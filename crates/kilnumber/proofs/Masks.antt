@@ -41,7 +41,7 @@ use Rattle.image.proofs.Admitting.{chain-passed}
 -- ---- the mask
 
 -- "The walk returns, beside its count, a 32-bit mask of the bits tested": in any words, of a walk that finishes. A bit of the mask is one
--- exactly if the path tests it
+-- exactly if the path tests it, and the count is the number of ones exactly if no bit is tested twice
 pub tested-bits : (words : List ℕ) (w : ℕ) (a : Walk) → walkOf words w ≡ result a → Tested words w a
 tested-bits = walk-tested
 
@@ -73,7 +73,7 @@ module _ (ws words : List ℕ) (t : Table) (reads : readTable ws ≡ result t) (
   pub accepted-ones : (w : ℕ) → w < 2 ^ (t .width) → (a : Walk) × (walkOf words w ≡ result a) × (a .entry ≡ named (select (t .entries) w)) × (a .count ≡ ones (a .mask))
   accepted-ones w h =
       let r = accepted-right (t .entries) (t .width) words yes w h in
-      (_, r .answers, refl, sym (path-ones words (t .width) _ w _ 1 _ (r .tests) (r .walks) (r .once)))
+      (_, r .answers, refl, path-ones words (t .width) _ w _ 1 _ (r .tests) (r .walks) .1 (r .once))
 
   -- "On such a tree two words of the width that agree on the mask get the same answer"
   pub accepted-alike : (w v : ℕ) → w < 2 ^ (t .width) → v < 2 ^ (t .width) → bitAnd v (maskOrZero (walkOf words w)) ≡ bitAnd w (maskOrZero (walkOf words w))
