@@ -1,5 +1,6 @@
 /*
- * Kilnumber for programs in C and C++: the walk of a decode tree, the check of a tree against its table, the listing of an image.
+ * Kilnumber for programs in C and C++: the walk of a decode tree, with the bits that it tests, the check of a tree against its
+ * table, the listing of an image.
  *
  * docs/FORMAT.md has all that is written in bits: tables, trees, items and results, with every refusal's number and its place, and
  * the orders in which refusals are looked for. This file gives them names.
@@ -9,8 +10,9 @@
  *   nothing is read past the lengths.
  * - Threads: no call keeps, allocates or locks anything. Calls may run at the same time on the same tree, table and image, as long
  *   as nobody writes to these meanwhile; each listing needs `items` of its own.
- * - One tree for all calls: kilnumber_walk takes a tree as it stands in a file, as bytes; kilnumber_check and kilnumber_list take
- *   words. Hold it as words (kilnumber_words makes them of a file's bytes) and walk it with kilnumber_walk_words.
+ * - One tree for all calls: kilnumber_walk and kilnumber_mask take a tree as it stands in a file, as bytes; kilnumber_check and
+ *   kilnumber_list take words. Hold it as words (kilnumber_words makes them of a file's bytes), and walk it with
+ *   kilnumber_walk_words and kilnumber_mask_words.
  */
 
 #ifndef KILNUMBER_H
@@ -39,7 +41,7 @@ enum kilnumber_refusal {
     KILNUMBER_NO_ROOM = 17         /* more items than `items` has room for; it holds the earlier ones */
 };
 
-/* The number of the refusal in any call's result, 0 if there is none. The other accessors say something only where they say so. */
+/* The number of the refusal in any call's 64 bits, 0 without one. The other accessors say something only where they say so. */
 static inline uint32_t kilnumber_number(uint64_t result) { return (uint32_t)(result >> 32 & 0xff); }
 
 /* ------------------------------------------------------------------------------------------------------------- the walk */
@@ -54,6 +56,16 @@ static inline uint32_t kilnumber_tests(uint64_t result) { return (uint32_t)(resu
 
 /* After KILNUMBER_DAMAGED_NODE of a walk: the index of that node. */
 static inline uint32_t kilnumber_place(uint64_t result) { return (uint32_t)(result >> 48); }
+
+/* The mask of the bits that the walk of the word tests, none at or above the tree's width; 0 if the walk is refused. (It is 0 too
+ * after a walk that tests nothing: only the walk tells a refusal.) If the walk of a word finishes, every word of the width that
+ * agrees with it on its mask has the same 64 bits and the same mask. On a tree that kilnumber_check accepts, a walk has as many
+ * tests as its mask has ones; other trees may test a bit twice.
+ *
+ * A cache keeps the 64 bits with the mask and the key: word AND mask. A later word needs no walk if its AND with that mask is the
+ * key. Only words of the width may be looked up so (the mask has no higher bit, and such a word is refused), and only walks that
+ * aren't refused may be kept. examples/cache.h is such a cache. */
+uint32_t kilnumber_mask(const uint8_t *tree, size_t tree_bytes, uint32_t word);
 
 /* ------------------------------------------------------------------------------------------------------------- the check */
 
@@ -94,10 +106,13 @@ static inline void kilnumber_words(const uint8_t *bytes, size_t words, uint32_t 
         out[at] = (uint32_t)bytes[0] | (uint32_t)bytes[1] << 8 | (uint32_t)bytes[2] << 16 | (uint32_t)bytes[3] << 24;
 }
 
-/* kilnumber_walk for a tree that is held as words, where the machine's own order is low byte first. */
+/* kilnumber_walk and kilnumber_mask for a tree that is held as words, where the machine's own order is low byte first. */
 #if !defined(__BYTE_ORDER__) || __BYTE_ORDER__ == __ORDER_LITTLE_ENDIAN__
 static inline uint64_t kilnumber_walk_words(const uint32_t *tree, size_t tree_words, uint32_t word) {
     return kilnumber_walk((const uint8_t *)tree, 4 * tree_words, word);
+}
+static inline uint32_t kilnumber_mask_words(const uint32_t *tree, size_t tree_words, uint32_t word) {
+    return kilnumber_mask((const uint8_t *)tree, 4 * tree_words, word);
 }
 #endif
 

@@ -1,6 +1,6 @@
 /*
- * The header's names, accessors and helpers; compiled as C and as C++, linked with the library. Every number here is document 01's
- * and not taken from the header.
+ * The header's names, accessors and helpers; compiled as C and as C++, linked with the library. Every number here is from
+ * documents 01 and 02, and not taken from the header.
  *
  * The table: width 32, entry 0 of 16 bits `1...`, entry 1 of 32 bits `01..`. Its tree tests bit 31, then bit 30.
  */
@@ -52,6 +52,15 @@ static void one_tree(uint32_t *tree) {
     expect("number 8", kilnumber_number(kilnumber_walk(tree_bytes, 7, 0)), KILNUMBER_TREE_HEADER);
 }
 
+static void masks(const uint32_t *tree) {
+    expect("one bit tested", kilnumber_mask(tree_bytes, sizeof tree_bytes, 0xffffffff), 0x80000000);
+    expect("two bits tested", kilnumber_mask(tree_bytes, sizeof tree_bytes, 0x00000001), 0xc0000000);
+    expect("the mask of a refused walk", kilnumber_mask(tree_bytes, sizeof tree_bytes - 1, 0), 0);
+    for (uint32_t top = 0; top < 16; top++)
+        expect("a mask by words", kilnumber_mask_words(tree, TREE_WORDS, top << 28), top < 8 ? 0xc0000000 : 0x80000000);
+    expect("a mask of too few words", kilnumber_mask_words(tree, TREE_WORDS - 1, 0), 0);
+}
+
 static void check(const uint32_t *tree) {
     uint32_t other[TREE_WORDS];
     memcpy(other, tree, sizeof other);
@@ -83,6 +92,7 @@ int main(void) {
     uint32_t tree[TREE_WORDS];
     names();
     one_tree(tree);
+    masks(tree);
     check(tree);
     list(tree);
     printf("header good: %u compared\n", compared);

@@ -1,108 +1,27 @@
 /*
- * Compares kilnumber_walk, called from C as the simulator does, with a walker written here from document 01 alone.
+ * Compares kilnumber_walk and kilnumber_mask, called from C as the simulator does, with a walker written from documents 01 and 02
+ * alone (walker.h).
  *
  * Usage: walk_test file, where the file holds generated trees (make_trees.py). Prints one line with the counts; at the
  * first difference it prints both results and exits with status 1.
  *
  *   gcc -std=c11 -O2 -Wall -Wextra -fsanitize=address,undefined -Iinclude tests/c/walk_test.c libkilnumber.a -o walk_test
  *
- * With -DSTAND_IN there is no library: kilnumber_walk is then a copy of the walker here, and with -DWRONG=1 and so on that
- * copy is wrong in one way, to show that the test notices.
+ * With -DSTAND_IN there is no library: the two calls are then copies of that walker, and with -DWRONG=1 and so on one of them is
+ * wrong in one way, to show that the test notices: 1 to 18 the walk here, from 19 on the mask in wrong_mask.h.
  *
  * Every tree lies directly before a page that can't be read, so a library that reads past the end breaks off, although
  * the sanitizers don't see into it.
  */
 
 #define _DEFAULT_SOURCE
-#include <stdio.h>
-#include <stdlib.h>
-#include <string.h>
 #include <sys/mman.h>
 #include <unistd.h>
 
 #include "kilnumber.h"
+#include "trees.h"
 
 #define LEAST_WALKS 2000000u
-#define MOST_WORDS 65600u
-
-/* ------------------------------------------------------------------------- the walker from document 01 */
-
-struct outcome {
-    uint32_t number;  /* 0 if the walk finished */
-    uint32_t place;
-    int nothing;
-    uint32_t entry;
-    uint32_t tests;
-};
-
-static uint32_t word_at(const uint8_t *bytes, size_t index) {
-    const uint8_t *at = bytes + 4 * index;
-    return (uint32_t)at[0] | (uint32_t)at[1] << 8 | (uint32_t)at[2] << 16 | (uint32_t)at[3] << 24;
-}
-
-static struct outcome refused(uint32_t number, uint32_t place) {
-    struct outcome outcome = {number, place, 0, 0, 0};
-    return outcome;
-}
-
-/* "tree header: length 0, kind, spare bit, width not 1-32, no nodes, more nodes than words after it" */
-static int header_wrong(const uint8_t *tree, size_t length) {
-    if (length % 4 != 0) return 1; /* "a length not a multiple of four gives 8" */
-    if (length == 0) return 1;
-    uint32_t header = word_at(tree, 0);
-    uint32_t width = header >> 16 & 63;
-    uint32_t nodes = header & 0xffff;
-    if (header >> 28 != 7) return 1;
-    if ((header >> 22 & 63) != 0) return 1;
-    if (width < 1 || width > 32) return 1;
-    if (nodes == 0) return 1;
-    return nodes > length / 4 - 1;
-}
-
-/* "A path node is damaged if ..." */
-static int node_damaged(uint32_t node, uint32_t index, uint32_t width, uint32_t nodes) {
-    switch (node >> 28) {
-    case 8:
-        if ((node >> 16 & 0x7f) != 0) return 1;
-        if ((node >> 23 & 31) >= width) return 1;
-        return (node & 0xffff) < index + 2 || (node & 0xffff) > nodes;
-    case 9:
-        return (node & 0x0fffff00) != 0;
-    case 10:
-        return (node & 0x0fffffff) != 0;
-    default:
-        return 1;
-    }
-}
-
-static struct outcome walk(const uint8_t *tree, size_t length, uint32_t word) {
-    if (header_wrong(tree, length)) return refused(8, 0);
-    uint32_t width = word_at(tree, 0) >> 16 & 63;
-    uint32_t nodes = word_at(tree, 0) & 0xffff;
-    if (width < 32 && word >> width != 0) return refused(7, 0);
-    struct outcome outcome = {0, 0, 0, 0, 0};
-    uint32_t index = 1;
-    for (;;) {
-        uint32_t node = word_at(tree, index);
-        if (node_damaged(node, index, width, nodes)) return refused(9, index);
-        if (node >> 28 == 9) {
-            outcome.entry = node & 0xff;
-            return outcome;
-        }
-        if (node >> 28 == 10) {
-            outcome.nothing = 1;
-            return outcome;
-        }
-        outcome.tests++;
-        index = (word >> (node >> 23 & 31) & 1) == 0 ? index + 1 : (node & 0xffff);
-    }
-}
-
-/* "entry in 7-0, bit 8 for nothing, count in 31-16, number in 39-32 (0 if none), place in 63-48, the rest zero" */
-static uint64_t packed(struct outcome outcome) {
-    return (uint64_t)outcome.entry | (uint64_t)outcome.nothing << 8 | (uint64_t)outcome.tests << 16 |
-           (uint64_t)outcome.number << 32 | (uint64_t)outcome.place << 48;
-}
 
 /* ------------------------------------------------------------------------- stand-in for the library */
 
@@ -110,6 +29,8 @@ static uint64_t packed(struct outcome outcome) {
 #ifndef WRONG
 #define WRONG 0
 #endif
+#define WRONG_MASK (WRONG - 18)
+#include "wrong_mask.h"
 
 uint64_t kilnumber_walk(const uint8_t *tree, size_t length, uint32_t word) {
     if (length % 4 != 0) {
@@ -157,19 +78,6 @@ uint64_t kilnumber_walk(const uint8_t *tree, size_t length, uint32_t word) {
 }
 #endif
 
-/* ------------------------------------------------------------------------- random numbers, the same in every run */
-
-static uint64_t state = 0x9e3779b97f4a7c15u;
-
-static uint32_t any(void) {
-    state ^= state << 13;
-    state ^= state >> 7;
-    state ^= state << 17;
-    return (uint32_t)(state >> 32);
-}
-
-static uint32_t below(uint32_t limit) { return any() % limit; }
-
 /* ------------------------------------------------------------------------- the lent bytes and the comparison */
 
 static uint8_t *guard;       /* the page that can't be read */
@@ -193,7 +101,15 @@ static const uint8_t *lend(const uint32_t *words, size_t length) {
     return to;
 }
 
-static uint64_t walks, by_number[10], entries, nothings, long_walks;
+static uint64_t walks, by_number[10], entries, nothings, long_walks, masked;
+
+static void show_difference(const char *what, const uint8_t *tree, size_t length, uint32_t word, uint64_t expected, uint64_t seen) {
+    printf("difference: %s, %zu bytes, word %08x: expected %016llx, seen %016llx\n", what, length, (unsigned)word,
+           (unsigned long long)expected, (unsigned long long)seen);
+    for (size_t at = 0; at < length / 4 && at < 40; at++) printf(" %08x", (unsigned)word_at(tree, at));
+    printf("\n");
+    exit(1);
+}
 
 static void compare(const char *what, const uint8_t *tree, size_t length, uint32_t word) {
     struct outcome outcome = walk(tree, length, word);
@@ -202,27 +118,15 @@ static void compare(const char *what, const uint8_t *tree, size_t length, uint32
     int parts_right = kilnumber_number(seen) == outcome.number && kilnumber_place(seen) == outcome.place &&
                       kilnumber_is_nothing(seen) == outcome.nothing && kilnumber_entry(seen) == outcome.entry &&
                       kilnumber_tests(seen) == outcome.tests;
-    if (seen != expected || !parts_right) {
-        printf("difference: %s, %zu bytes, word %08x: expected %016llx, seen %016llx\n", what, length, (unsigned)word,
-               (unsigned long long)expected, (unsigned long long)seen);
-        for (size_t at = 0; at < length / 4 && at < 40; at++) printf(" %08x", (unsigned)word_at(tree, at));
-        printf("\n");
-        exit(1);
-    }
+    if (seen != expected || !parts_right) show_difference(what, tree, length, word, expected, seen);
+    uint32_t mask = kilnumber_mask(tree, length, word);
+    if (mask != outcome.mask) show_difference("the mask", tree, length, word, outcome.mask, mask);
     walks++;
     by_number[outcome.number]++;
     if (outcome.number == 0 && outcome.nothing) nothings++;
     if (outcome.number == 0 && !outcome.nothing) entries++;
     if (outcome.number == 0 && outcome.tests > 255) long_walks++;
-}
-
-/* A word of the tree's width, now and then one with a bit at or above it. */
-static uint32_t some_word(uint32_t header) {
-    uint32_t width = header >> 16 & 63;
-    uint32_t word = any();
-    if (width == 0 || width >= 32 || below(24) == 0) return word;
-    word &= ((uint32_t)1 << width) - 1;
-    return below(24) == 0 ? word | (uint32_t)1 << width : word;
+    if (outcome.mask != 0) masked++;
 }
 
 static void walk_often(const char *what, const uint32_t *words, size_t length, int times) {
@@ -232,53 +136,6 @@ static void walk_often(const char *what, const uint32_t *words, size_t length, i
 }
 
 /* ------------------------------------------------------------------------- other trees */
-
-static uint32_t lent[MOST_WORDS]; /* the words at work */
-
-static uint32_t foreign_node(uint32_t index, uint32_t width, uint32_t nodes) {
-    if (index + 2 <= nodes && below(4) != 0) {
-        uint32_t last = below(4) != 0 && index + 12 < nodes ? index + 12 : nodes;
-        return 8u << 28 | below(width) << 23 | (index + 2 + below(last - index - 1));
-    }
-    return below(3) == 0 ? 10u << 28 : 9u << 28 | below(256);
-}
-
-/* Nodes that are each good by themselves, and random words after them; the number of words with them. */
-static size_t make_foreign(uint32_t width, uint32_t nodes, uint32_t after) {
-    lent[0] = 7u << 28 | width << 16 | nodes;
-    for (uint32_t index = 1; index <= nodes; index++) lent[index] = foreign_node(index, width, nodes);
-    for (uint32_t index = 0; index < after; index++) lent[nodes + 1 + index] = any();
-    return nodes + 1 + after;
-}
-
-/* One node that is wrong in one way, or good in another. The header may say fewer nodes than there are words. */
-static void alter_node(uint32_t index, uint32_t nodes) {
-    uint32_t node = lent[index];
-    switch (below(8)) {
-    case 0: node = (node & 0x0fffffff) | below(16) << 28; break;
-    case 1: node ^= (uint32_t)1 << below(32); break;
-    case 2: node = (node & ~(31u << 23)) | below(32) << 23; break;
-    case 3: node = (node & ~0xffffu) | (index + below(3)); break;
-    case 4: node = (node & ~0xffffu) | ((nodes + below(3)) & 0xffff); break;
-    case 5: node = (node & ~0xffffu) | below(65536); break;
-    case 6: node = 8u << 28 | below(32) << 23 | ((index + below(4)) & 0xffff); break;
-    default: node = any(); break;
-    }
-    lent[index] = node;
-}
-
-static void alter_header(size_t words) {
-    uint32_t header = lent[0];
-    switch (below(6)) {
-    case 0: header = (header & 0x0fffffff) | below(16) << 28; break;
-    case 1: header |= (uint32_t)1 << (22 + below(6)); break;
-    case 2: header = (header & ~(63u << 16)) | below(64) << 16; break;
-    case 3: header = (header & ~0xffffu) | (((uint32_t)words + below(4) - 2) & 0xffff); break;
-    case 4: header = (header & ~0xffffu) | below(65536); break;
-    default: header &= ~0xffffu; break;
-    }
-    lent[0] = header;
-}
 
 /* A tree and what can be made of it: damaged nodes near the root (where paths come by), headers, lengths, words after it. */
 static void all_ways(const char *what, size_t words, int times) {
@@ -304,17 +161,9 @@ static void all_ways(const char *what, size_t words, int times) {
     }
 }
 
-static void generated_trees(const uint32_t *file, size_t size) {
-    size_t at = 1;
-    uint32_t count = file[0];
-    for (uint32_t turn = 0; turn < count; turn++) {
-        size_t words = file[at];
-        if (words + at + 1 > size || words > 20000) {
-            printf("the file of trees is not whole\n");
-            exit(2);
-        }
-        memcpy(lent, file + at + 1, 4 * words);
-        at += 1 + words;
+static void generated_trees(const char *name) {
+    struct trees trees = open_trees(name);
+    for (size_t words = next_tree(&trees); words != 0; words = next_tree(&trees)) {
         int times = words < 2000 ? 512 : 64;
         all_ways("generated", words, times);
         size_t after = 1 + below(5);
@@ -360,46 +209,16 @@ static void unaligned_trees(void) {
     }
 }
 
-static uint32_t *read_file(const char *name, size_t *size) {
-    FILE *file = fopen(name, "rb");
-    if (file == NULL || fseek(file, 0, SEEK_END) != 0) {
-        perror(name);
-        exit(2);
-    }
-    size_t length = (size_t)ftell(file);
-    rewind(file);
-    uint8_t *bytes = malloc(length + 4);
-    uint32_t *words = malloc(length + 4);
-    if (length < 4 || bytes == NULL || words == NULL || fread(bytes, 1, length, file) != length) {
-        printf("can't read %s\n", name);
-        exit(2);
-    }
-    *size = length / 4;
-    for (size_t at = 0; at < *size; at++) words[at] = word_at(bytes, at);
-    free(bytes);
-    fclose(file);
-    return words;
-}
-
-static void require(uint64_t count, uint64_t least, const char *what) {
-    if (count >= least) return;
-    printf("only %llu of: %s; at least %llu are needed\n", (unsigned long long)count, what, (unsigned long long)least);
-    exit(1);
-}
-
 int main(int arguments, char **argument) {
     if (arguments != 2) {
         printf("usage: walk_test file\n");
         return 2;
     }
-    size_t size;
-    uint32_t *file = read_file(argument[1], &size);
     prepare_room();
-    generated_trees(file, size);
+    generated_trees(argument[1]);
     foreign_trees();
     largest_trees();
     unaligned_trees();
-    free(file);
     require(walks, LEAST_WALKS, "walks");
     require(entries, 300000, "entries named");
     require(nothings, 100000, "nothing named");
@@ -407,7 +226,8 @@ int main(int arguments, char **argument) {
     require(by_number[7], 50000, "number 7");
     require(by_number[8], 100000, "number 8");
     require(by_number[9], 200000, "number 9");
-    printf("walk_test good: %llu walks; entry: %llu, nothing: %llu, number 7: %llu, number 8: %llu, number 9: %llu\n",
+    require(masked, 1000000, "masks with a one");
+    printf("walk_test good: %llu walks and masks; entry: %llu, nothing: %llu, number 7: %llu, number 8: %llu, number 9: %llu\n",
            (unsigned long long)walks, (unsigned long long)entries, (unsigned long long)nothings,
            (unsigned long long)by_number[7], (unsigned long long)by_number[8], (unsigned long long)by_number[9]);
     return 0;
