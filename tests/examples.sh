@@ -1,7 +1,8 @@
 #!/usr/bin/env bash
-# Builds the C examples as their own comments say, under gcc's sanitizers, and runs them: simulator.c on the worked table, on words of 16 and
-# 32 bits and on each refusal; lister.c on an AVR image, on the buoy's table and on each refusal. Every expected line is written here by hand. Then
-# it shows that edits of the examples are noticed.
+# Builds the C examples as their own comments say, under gcc's sanitizers, and runs them: simulator.c on the worked table, on
+# words of 16 and 32 bits and on each refusal; lister.c and cache.c on an AVR image, on the buoy's table and on each refusal.
+# Every expected line is written here by hand. Then it shows that edits of the examples are noticed. (tests/c/cache_test.c tries
+# the cache with narrow and damaged trees.)
 # It needs gcc and python3, target/bin/mktree and the library; tests/run has just built that one (tests/c/run).
 set -eu
 cd "$(dirname "$0")/.."
@@ -29,6 +30,9 @@ words 10010020 20002010 80000000 80000000 3000001f > "$out/thirty_two.table"
 words 70200003 8f800003 a0000000 90000000 > "$out/thirty_two.tree"
 words 10010003 20000310 00000004 00000004 30000002 > "$out/three.table"
 words 70030003 81000003 a0000000 90000000 > "$out/three.tree"
+# One entry of width 32, 1--..-1: bits 31 and 0 are tested.
+words 10010020 20002010 80000001 80000001 3000011e > "$out/ends.table"
+words 70200005 8f800003 a0000000 80000005 a0000000 90000000 > "$out/ends.tree"
 words 10010003 20000310 00000004 00000004 > "$out/early.table"      # ends before the field
 words 70030003 81000004 a0000000 90000000 > "$out/damaged.tree"     # the one side is past the last node
 words 70030003 81000003 90000000 90000000 > "$out/other.tree"       # well formed, and another table's
@@ -41,6 +45,8 @@ printf '5 7\n' > "$out/other.currents"
 printf '0 7\n0 8\n' > "$out/twice.currents"
 printf '0 seven\n' > "$out/text.currents"
 printf '\x00\x0f\xf3\x1f\x00\xe0\x34\x12\x00\xb1\x00\xe0' > "$out/buoy.image"  # 0f00 1ff3 e000 1234 b100 e000
+for turn in 1 2 3; do head -c 46 examples/avr.image; done > "$out/loop.image" # without the last halfword, which is cut off
+printf '\x00\x80\x00\x00\x00\x80\x01\x00\x34\x80\x03\x00\x12\x80' > "$out/ends.image" # 8000 0000 8000 0001 8034 0003 8012
 
 cat > "$out/simulator.expected" <<'END'
 entry   0:        3 times    120 uA =          360
@@ -125,6 +131,34 @@ status 2
 status 2
 END
 
+# An item's slot is its top byte.
+# avr.image: 940c, 940e, 940c, 94f8 and 940c put each other out of slot 94; the second ldi (ef..) and the second out (bf..) hit.
+# loop.image: the later rounds miss only the four of slot 94.
+# buoy.image: e000 hits the second time, as no bit of its other half is tested.
+# ends.image: 8000 0000, 0000 8000 and 8000 0001 miss, 8034 0003 hits, and 8012 without another half misses.
+cat > "$out/cache.expected" <<'END'
+19 items: 2 hits, 17 misses
+status 0
+54 items: 30 hits, 24 misses
+status 0
+5 items: 1 hits, 4 misses
+status 0
+5 items: 1 hits, 4 misses
+status 0
+0 items: 0 hits, 0 misses
+status 0
+refused 14
+status 1
+refused 15
+status 1
+refused 16
+status 1
+refused 2
+status 1
+status 2
+status 2
+END
+
 run() { # program, its files
     local status=0
     ASAN_OPTIONS=allocator_may_return_null=1 "$@" 2> "$out/stderr" || status=$?
@@ -163,18 +197,34 @@ lister_runs() { # program
     run "$1" data/avr.table "$out/avr.tree" "$out"
 }
 
+cache_runs() { # program
+    run "$1" data/avr.table "$out/avr.tree" examples/avr.image
+    run "$1" data/avr.table "$out/avr.tree" "$out/loop.image"
+    run "$1" data/buoy.table "$out/buoy.tree" "$out/buoy.image"
+    run "$1" "$out/ends.table" "$out/ends.tree" "$out/ends.image"
+    run "$1" data/avr.table "$out/avr.tree" /dev/null
+    run "$1" data/avr.table "$out/buoy.tree" examples/avr.image
+    run "$1" "$out/three.table" "$out/three.tree" examples/avr.image
+    run "$1" data/avr.table "$out/avr.tree" "$out/three.image"
+    run "$1" "$out/early.table" "$out/three.tree" examples/avr.image
+    run "$1" data/avr.table "$out/cut.tree" examples/avr.image
+    run "$1" data/avr.table "$out/avr.tree" "$out"
+}
+
 try_example() { # name; standard input: an edit a line, each of which makes one thing wrong, so that the lines must differ
-    local edits=0 edit
+    local edits=0 edit header changed
     build "examples/$1.c" "$out/$1"
     "$1_runs" "$out/$1" > "$out/$1.seen"
     diff "$out/$1.expected" "$out/$1.seen" || { echo "examples: $1 prints not the expected lines"; exit 1; }
     while IFS= read -r edit; do
         sed "$edit" "examples/$1.c" > "$out/edited.c"
-        sed "$edit" examples/files.h > "$out/files.h"
-        if cmp -s "examples/$1.c" "$out/edited.c" && cmp -s examples/files.h "$out/files.h"; then
-            echo "examples: $1: the edit $edit changes nothing"
-            exit 1
-        fi
+        changed=0
+        cmp -s "examples/$1.c" "$out/edited.c" || changed=1
+        for header in $(sed -n 's/^#include "\(files.h\|cache.h\)"$/\1/p' "examples/$1.c"); do
+            sed "$edit" "examples/$header" > "$out/$header"
+            cmp -s "examples/$header" "$out/$header" || changed=1
+        done
+        if [ "$changed" = 0 ]; then echo "examples: $1: the edit $edit changes nothing"; exit 1; fi
         gcc -std=c11 -O0 -Iinclude "$out/edited.c" "$library" -o "$out/edited"
         "$1_runs" "$out/edited" > "$out/edited.seen" 2>&1
         if cmp -s "$out/$1.expected" "$out/edited.seen"; then echo "examples: $1: the edit $edit is not noticed"; exit 1; fi
@@ -209,3 +259,34 @@ s/number == KILNUMBER_BAD_IMAGE/number == 99/
 s/if (bytes.count % 4 != 0)/if (0)/
 s/image.at\[2 \* at + 1\], image.at\[2 \* at\]/image.at[2 * at], image.at[2 * at + 1]/
 END
+try_example cache <<'END'
+s/(word & slot->cover) == slot->key/slot->cover != 0/
+s/slot->key = word & slot->cover/slot->key = word/
+s/slot->cover = kilnumber_mask_words(.*, word)/slot->cover = 0xffffffff/
+s/slot->cover = kilnumber_mask_words(.*, word)/slot->cover = word/
+s/slot->result = result;//
+s/slot\[at\].key = 1/slot[at].key = 0/
+s/cache->misses++;//
+s/width - 8/width - 16/
+s/CACHE_SLOTS 256/CACHE_SLOTS 16/
+s/half_at(image, address) << 16/half_at(image, address)/
+s/ | half_at(image, address + 1)//
+s/if (2 \* address + 2 > image.count) return 0;/if (2 * address + 2 > image.count) return 0xffff;/
+s/image.at\[2 \* address\] |/image.at[2 * address + 1] |/
+s/count - cache.misses/count/
+s/int failed = kilnumber_number(result) != 0;/int failed = 0;/
+s/return failed;/return 0;/
+s/if (bytes.count % 4 != 0)/if (0)/
+END
+
+# The cache's program must tell of a cache that is wrong: a slot that any word hits.
+cp examples/cache.c examples/files.h "$out"
+sed 's/(word & slot->cover) == slot->key/slot->cover != 0/' examples/cache.h > "$out/cache.h"
+gcc -std=c11 -O0 -Iinclude "$out/cache.c" "$library" -o "$out/edited"
+run "$out/edited" data/avr.table "$out/avr.tree" examples/avr.image > "$out/edited.seen"
+told='word 940e0040: 00000000000a004d from the cache, 00000000000a004e from the tree' # jmp (77) for call (78)
+if ! grep -qx "$told" "$out/edited.seen" || ! grep -qx 'status 1' "$out/edited.seen"; then
+    echo 'examples: cache does not tell of a wrong cache'
+    exit 1
+fi
+echo 'cache tells of a wrong cache'

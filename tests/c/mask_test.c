@@ -1,6 +1,7 @@
 /*
- * What is promised of kilnumber_mask, tried without a walker beside it: it is 0 when the walk is refused, has no bit at or above the
- * width, has as many ones as the walk of a generated tree has tests, and words of the width that agree on it get the same answer.
+ * What is promised of kilnumber_mask, tried without a walker beside it: it is 0 when the walk is refused, has no bit at or above
+ * the width, has as many ones as the walk of a generated tree has tests, and words of the width that agree on it get the same
+ * answer.
  *
  * Usage: mask_test file, where the file holds generated trees (make_trees.py). Prints one line with the counts; at the first
  * difference it exits with status 1.

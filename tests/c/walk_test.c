@@ -103,7 +103,7 @@ static const uint8_t *lend(const uint32_t *words, size_t length) {
 
 static uint64_t walks, by_number[10], entries, nothings, long_walks, masked;
 
-static void show_difference(const char *what, const uint8_t *tree, size_t length, uint32_t word, uint64_t expected, uint64_t seen) {
+static void differ(const char *what, const uint8_t *tree, size_t length, uint32_t word, uint64_t expected, uint64_t seen) {
     printf("difference: %s, %zu bytes, word %08x: expected %016llx, seen %016llx\n", what, length, (unsigned)word,
            (unsigned long long)expected, (unsigned long long)seen);
     for (size_t at = 0; at < length / 4 && at < 40; at++) printf(" %08x", (unsigned)word_at(tree, at));
@@ -118,9 +118,9 @@ static void compare(const char *what, const uint8_t *tree, size_t length, uint32
     int parts_right = kilnumber_number(seen) == outcome.number && kilnumber_place(seen) == outcome.place &&
                       kilnumber_is_nothing(seen) == outcome.nothing && kilnumber_entry(seen) == outcome.entry &&
                       kilnumber_tests(seen) == outcome.tests;
-    if (seen != expected || !parts_right) show_difference(what, tree, length, word, expected, seen);
+    if (seen != expected || !parts_right) differ(what, tree, length, word, expected, seen);
     uint32_t mask = kilnumber_mask(tree, length, word);
-    if (mask != outcome.mask) show_difference("the mask", tree, length, word, outcome.mask, mask);
+    if (mask != outcome.mask) differ("the mask", tree, length, word, outcome.mask, mask);
     walks++;
     by_number[outcome.number]++;
     if (outcome.number == 0 && outcome.nothing) nothings++;
