@@ -1,6 +1,9 @@
 """Makes what walk.c reads: trees, words to walk in each, and what the second implementation says of some of them.
 
-Usage: make_walk.py file. The file is 32-bit words, low byte first: how many trees; for each tree its name (16 bytes), the tree as
+Usage: make_walk.py file            writes the file
+       make_walk.py table tree      reads a table's file, writes its tree
+
+The file is 32-bit words, low byte first: how many trees; for each tree its name (16 bytes), the tree as
 a run (how many words, then the words), the words to walk as a run, and a run of answers: word, low half, high half of its 64 bits.
 """
 
@@ -27,6 +30,11 @@ def tree_of(words):
     return written(table.width, nodes_of(table))
 
 
+def words_in(path):
+    data = Path(path).read_bytes()
+    return list(struct.unpack(f"<{len(data) // 4}I", data))
+
+
 def comb(width):
     """Entries 1-.., 01-.., 001-.. and so on: one path tests every bit."""
     entries = []
@@ -49,10 +57,7 @@ def cases(rng):
     """(name, tree, words to walk)"""
     worked = tree_of(examples.WORKED)
     yield "worked", worked, random_words(rng, 8, WALKS)
-    listing = Path(__file__).resolve().parent / "listing.table"
-    data = listing.read_bytes()
-    tree = tree_of(list(struct.unpack(f"<{len(data) // 4}I", data)))
-    yield "listing", tree, random_words(rng, 32, WALKS)
+    yield "listing", tree_of(words_in(Path(__file__).resolve().parent / "listing.table")), random_words(rng, 32, WALKS)
     full = tree_of(tables.lay_out(tables.full_tree_plan(rng, 32, 13)).words)
     yield "16,384 words", full, random_words(rng, 32, WALKS)
     yield "same, one word", full, [rng.getrandbits(32)] * WALKS
@@ -63,7 +68,7 @@ def cases(rng):
     yield "chain", trees.chain(16383), [0] * 32
 
 
-def main():
+def write_walks(file):
     rng = random.Random(SEED)
     made = list(cases(rng))
     out = struct.pack("<I", len(made))
@@ -78,7 +83,21 @@ def main():
         for run in (tree, words, answers):
             out += struct.pack(f"<{len(run) + 1}I", len(run), *run)
         print(f"make_walk: {name}: {len(tree)} tree words, {len(words)} walks")
-    Path(sys.argv[1]).write_bytes(out)
+    Path(file).write_bytes(out)
+
+
+def write_tree(table, file):
+    tree = tree_of(words_in(table))
+    Path(file).write_bytes(struct.pack(f"<{len(tree)}I", *tree))
+
+
+def main():
+    if len(sys.argv) == 2:
+        write_walks(sys.argv[1])
+    elif len(sys.argv) == 3:
+        write_tree(*sys.argv[1:])
+    else:
+        sys.exit(__doc__)
 
 
 if __name__ == "__main__":

@@ -1,8 +1,10 @@
 /*
- * How long walks take: a walker in plain C with the same checks on the same bytes, and beside it the proved one.
+ * How long walks take: a walker in plain C with the same checks on the same bytes, beside it the proved one, and beside these the
+ * proved call for the mask of a walk.
  *
  * Usage: walk file (make_walk.py writes it). First every result is compared: the C side with the second implementation, the
- * proved side with the C side on all words, and both on trees with a bit flipped. It exits with status 1 at a difference.
+ * proved side with the C side on all words, walks and masks, and both on trees with a bit flipped. It exits with status 1 at a
+ * difference.
  *
  *   gcc -std=c11 -O2 -Iinclude bench/walk.c libkilnumber.a -o walk
  *   gcc -std=c11 -O2 -DSTAND_IN -DWRONG=1 -Iinclude bench/walk.c -o walk       no library, a wrong walker in its place
@@ -95,9 +97,29 @@ __attribute__((noinline)) static uint64_t walk_in_c(const uint8_t *tree, size_t 
     }
 }
 
+/* The mask is only compared: its time is held against that of the C walk, which has no mask to keep. */
+static uint32_t mask_in_c(const uint8_t *tree, size_t length, uint32_t word) {
+    uint32_t mask = 0;
+    if ((walk_in_c(tree, length, word) >> 32 & 0xff) != 0) return 0;
+    for (uint32_t index = 1; word_at(tree, index) >> 28 == 8;) {
+        uint32_t node = word_at(tree, index), bit = node >> 23 & 31;
+        mask |= (uint32_t)1 << bit;
+        index = (word >> bit & 1) == 0 ? index + 1 : node & 0xffff;
+    }
+    return mask;
+}
+
 /* ------------------------------------------------------------------------- stand-in for the library */
 
 #ifdef STAND_IN
+uint32_t kilnumber_mask(const uint8_t *tree, size_t length, uint32_t word) {
+    uint32_t mask = mask_in_c(tree, length, word);
+    if (WRONG == 7) mask |= 1;    /* 7: bit 0 is always in it */
+    if (WRONG == 8) mask &= word; /* 8: a zero side is not marked */
+    if (WRONG == 9 && walk_in_c(tree, length, word) >> 32 == 7) mask = mask_in_c(tree, length, 0); /* 9: for high words */
+    return mask;
+}
+
 uint64_t kilnumber_walk(const uint8_t *tree, size_t length, uint32_t word) {
     uint64_t result = walk_in_c(tree, length, word);
     uint32_t number = (uint32_t)(result >> 32 & 0xff);
@@ -166,6 +188,11 @@ static void compare(const uint8_t *tree, size_t length, uint32_t word) {
                (unsigned long long)proved);
         exit(1);
     }
+    uint32_t mask = mask_in_c(tree, length, word), proved_mask = kilnumber_mask(tree, length, word);
+    if (mask != proved_mask) {
+        printf("walk: word %08x: the mask in C %08x, proved %08x\n", (unsigned)word, (unsigned)mask, (unsigned)proved_mask);
+        exit(1);
+    }
     compared++;
     with_number[in_c >> 32 & 0xff]++;
 }
@@ -218,25 +245,50 @@ static double timed(walker *walk, struct case_ made, size_t rounds, uint64_t *su
     return taken;
 }
 
+static double timed_masks(struct case_ made, size_t rounds, uint64_t *sum) {
+    uint64_t total = 0;
+    double before = seconds();
+    for (size_t round = 0; round < rounds; round++)
+        for (size_t at = 0; at < made.words.count; at++) total += kilnumber_mask(made.tree, made.tree_bytes, made.words.at[at]);
+    double taken = seconds() - before;
+    *sum = total;
+    return taken;
+}
+
+static uint64_t masks_in_c(struct case_ made, size_t rounds) {
+    uint64_t total = 0;
+    for (size_t at = 0; at < made.words.count; at++) total += mask_in_c(made.tree, made.tree_bytes, made.words.at[at]);
+    return rounds * total;
+}
+
+/* The middle ratios to the walk in C: of the proved walk, and of the proved mask. */
+struct medians {
+    double walk, mask;
+};
+
 /* The sides take turns, so that what else the machine does meets both; each turn gives a ratio of its own. */
-static double measure(struct case_ made) {
+static struct medians measure(struct case_ made) {
     double a_round = (made.tests + 4) * (double)made.words.count;
     size_t rounds = (size_t)(LEAST_TESTS / a_round) + 1;
-    double c_taken[REPEATS], proved_taken[REPEATS], ratio[REPEATS];
+    double c_taken[REPEATS], proved_taken[REPEATS], ratio[REPEATS], mask_taken[REPEATS], mask_ratio[REPEATS];
+    uint64_t c_masks = masks_in_c(made, rounds);
     for (int turn = 0; turn < REPEATS; turn++) {
-        uint64_t c_sum, proved_sum;
+        uint64_t c_sum, proved_sum, proved_masks;
         c_taken[turn] = timed(walk_in_c, made, rounds, &c_sum);
         proved_taken[turn] = timed(kilnumber_walk, made, rounds, &proved_sum);
         ratio[turn] = proved_taken[turn] / c_taken[turn];
-        if (c_sum != proved_sum) stop("the sums differ");
+        mask_taken[turn] = timed_masks(made, rounds, &proved_masks);
+        mask_ratio[turn] = mask_taken[turn] / c_taken[turn];
+        if (c_sum != proved_sum || c_masks != proved_masks) stop("the sums differ");
     }
     struct times c_times = times_of(c_taken), proved_times = times_of(proved_taken), ratios = times_of(ratio);
+    struct medians medians = {ratios.median, times_of(mask_ratio).median};
     double walks = 1e-9 * (double)rounds * (double)made.words.count;
-    printf("%-16s %8.1f  %8.2f %8.2f %8.2f  %8.2f %8.2f %8.2f  %5.2f  %5.2f %5.2f %5.2f\n", made.name, made.tests,
+    printf("%-16s %8.1f  %8.2f %8.2f %8.2f  %8.2f %8.2f %8.2f  %5.2f  %5.2f %5.2f %5.2f  %8.2f %5.2f\n", made.name, made.tests,
            c_times.best / walks, c_times.median / walks, c_times.worst / walks, proved_times.best / walks,
            proved_times.median / walks, proved_times.worst / walks, proved_times.best / c_times.best, ratios.best,
-           ratios.median, ratios.worst);
-    return ratios.median;
+           ratios.median, ratios.worst, times_of(mask_taken).median / walks, medians.mask);
+    return medians;
 }
 
 int main(int arguments, char **argument) {
@@ -250,16 +302,20 @@ int main(int arguments, char **argument) {
         made[at] = take_case(&left);
         check_equal(&made[at]);
     }
-    printf("equal: %zu walks; number 7: %zu, 8: %zu, 9: %zu\n", compared, with_number[7], with_number[8], with_number[9]);
+    printf("equal: %zu walks and masks; number 7: %zu, 8: %zu, 9: %zu\n", compared, with_number[7], with_number[8],
+           with_number[9]);
     if (with_number[7] < 100 || with_number[8] < 100 || with_number[9] < 100) stop("too few refusals were compared");
 #ifndef STAND_IN
-    printf("ns a walk: tests; C: best, median, worst; proved: best, median, worst; ratio of best; of turns: least, median, most\n");
-    double worst = 0;
+    printf("ns a walk: tests; C: best, median, worst; proved: best, median, worst; ratio of best; of turns: least, median,"
+           " most;\n           the proved mask: median, and its median ratio to the C walk\n");
+    struct medians worst = {0, 0};
     for (size_t at = 0; at < count; at++) {
-        double ratio = measure(made[at]);
-        if (ratio > worst) worst = ratio;
+        struct medians ratio = measure(made[at]);
+        if (ratio.walk > worst.walk) worst.walk = ratio.walk;
+        if (ratio.mask > worst.mask) worst.mask = ratio.mask;
     }
-    printf("largest median ratio proved to C: %.2f\n", worst);
+    printf("largest median ratio proved to C: %.2f\n", worst.walk);
+    printf("largest median ratio of the proved mask to the C walk: %.2f\n", worst.mask);
 #else
     (void)measure;
 #endif

@@ -16,19 +16,8 @@
 
 #include "cache.h"
 #include "files.h"
+#include "items.h"
 #include "kilnumber.h"
-
-/* The halfword at an address, 0 past the image's end. */
-static uint32_t half_at(struct bytes image, size_t address) {
-    if (2 * address + 2 > image.count) return 0;
-    return (uint32_t)image.at[2 * address] | (uint32_t)image.at[2 * address + 1] << 8;
-}
-
-/* The word that the lister walks for an item: its halfword in the upper half, the next one in the lower. */
-static uint32_t word_of(struct bytes image, uint32_t item) {
-    size_t address = kilnumber_item_address(item);
-    return half_at(image, address) << 16 | half_at(image, address + 1);
-}
 
 /* Whether the cache's answer is another than the tree's. */
 static int differs(struct cache *cache, uint32_t word) {

@@ -1,7 +1,7 @@
 /*
  * A small cache of walks, for a simulator that meets the same instructions again and again: cache_walk answers what
- * kilnumber_walk_words answers, and walks only where it must. A walk is kept with the mask of the bits that it tested, so it serves
- * all words that agree with its word there, whatever their operands are.
+ * kilnumber_walk_words answers, and walks only where it must. A walk is kept with the mask of the bits that it tested, so it
+ * serves all words that agree with its word there, whatever their operands are.
  *
  * A cache belongs to one tree, which may not change meanwhile, and to one thread.
  */
@@ -11,7 +11,8 @@
 
 #include "kilnumber.h"
 
-#define CACHE_SLOTS 256
+#define CACHE_BITS 10
+#define CACHE_SLOTS (1 << CACHE_BITS)
 
 /* A word hits if it has the key's bits where `cover` has ones. */
 struct cache_slot {
@@ -34,7 +35,7 @@ static inline void cache_start(struct cache *cache, const uint32_t *tree, size_t
     cache->tree = tree;
     cache->tree_words = tree_words;
     cache->above = width < 32 ? 0xffffffff << width : 0;
-    cache->shift = width > 8 ? width - 8 : 0;
+    cache->shift = width > CACHE_BITS ? width - CACHE_BITS : 0;
     cache->misses = 0;
     for (size_t at = 0; at < CACHE_SLOTS; at++) {
         cache->slot[at].cover = 0; /* with this key no word hits */
@@ -42,7 +43,7 @@ static inline void cache_start(struct cache *cache, const uint32_t *tree, size_t
     }
 }
 
-/* By the word's top byte: most tables tell instructions apart there, and operands stand below. A hash of more bits would take in
+/* By the word's top bits: most tables tell instructions apart there, and operands stand below. A hash of more bits would take in
  * operands, and words that agree on their mask would lie in many slots. */
 static inline struct cache_slot *cache_slot_of(struct cache *cache, uint32_t word) {
     return &cache->slot[word >> cache->shift & (CACHE_SLOTS - 1)];

@@ -131,15 +131,15 @@ status 2
 status 2
 END
 
-# An item's slot is its top byte.
-# avr.image: 940c, 940e, 940c, 94f8 and 940c put each other out of slot 94; the second ldi (ef..) and the second out (bf..) hit.
-# loop.image: the later rounds miss only the four of slot 94.
+# An item's slot is its top ten bits.
+# avr.image: bfcd hits, an out as bfde before it; 940c, 940e and 940c put each other out of their slot, and the last 940c hits.
+# loop.image: the later rounds miss only 940e and the second 940c.
 # buoy.image: e000 hits the second time, as no bit of its other half is tested.
 # ends.image: 8000 0000, 0000 8000 and 8000 0001 miss, 8034 0003 hits, and 8012 without another half misses.
 cat > "$out/cache.expected" <<'END'
 19 items: 2 hits, 17 misses
 status 0
-54 items: 30 hits, 24 misses
+54 items: 33 hits, 21 misses
 status 0
 5 items: 1 hits, 4 misses
 status 0
@@ -220,7 +220,7 @@ try_example() { # name; standard input: an edit a line, each of which makes one 
         sed "$edit" "examples/$1.c" > "$out/edited.c"
         changed=0
         cmp -s "examples/$1.c" "$out/edited.c" || changed=1
-        for header in $(sed -n 's/^#include "\(files.h\|cache.h\)"$/\1/p' "examples/$1.c"); do
+        for header in files.h items.h cache.h; do
             sed "$edit" "examples/$header" > "$out/$header"
             cmp -s "examples/$header" "$out/$header" || changed=1
         done
@@ -267,8 +267,8 @@ s/slot->cover = kilnumber_mask_words(.*, word)/slot->cover = word/
 s/slot->result = result;//
 s/slot\[at\].key = 1/slot[at].key = 0/
 s/cache->misses++;//
-s/width - 8/width - 16/
-s/CACHE_SLOTS 256/CACHE_SLOTS 16/
+s/width - CACHE_BITS/width - 16/
+s/CACHE_BITS 10/CACHE_BITS 4/
 s/half_at(image, address) << 16/half_at(image, address)/
 s/ | half_at(image, address + 1)//
 s/if (2 \* address + 2 > image.count) return 0;/if (2 * address + 2 > image.count) return 0xffff;/
@@ -280,7 +280,7 @@ s/if (bytes.count % 4 != 0)/if (0)/
 END
 
 # The cache's program must tell of a cache that is wrong: a slot that any word hits.
-cp examples/cache.c examples/files.h "$out"
+cp examples/cache.c examples/files.h examples/items.h "$out"
 sed 's/(word & slot->cover) == slot->key/slot->cover != 0/' examples/cache.h > "$out/cache.h"
 gcc -std=c11 -O0 -Iinclude "$out/cache.c" "$library" -o "$out/edited"
 run "$out/edited" data/avr.table "$out/avr.tree" examples/avr.image > "$out/edited.seen"

@@ -1,6 +1,6 @@
 /*
- * Compares the cache of the examples (examples/cache.h) with walks without it: all words of narrow trees, words of other trees that
- * differ in few bits, words that are too high, trees that are damaged or that no table has.
+ * Compares the cache of the examples (examples/cache.h) with walks without it: all words of narrow trees, words of other trees
+ * that differ in few bits, words that are too high, trees that are damaged or that no table has.
  *
  * Usage: cache_test file, where the file holds generated trees (make_trees.py). Prints one line with the counts; at the first
  * difference it exits with status 1.
@@ -12,7 +12,7 @@
 #include "cache.h"
 #include "trees.h"
 
-#define NARROW 10 /* bits: all words of such trees are walked */
+#define NARROW 12 /* bits: all words of such trees are walked */
 #define ROUNDS 3
 
 static uint64_t walks, hits, refusals[10];
