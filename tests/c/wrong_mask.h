@@ -27,9 +27,9 @@ static uint32_t path_mask(const uint8_t *tree, size_t words, uint32_t word, uint
 uint32_t kilnumber_mask(const uint8_t *tree, size_t length, uint32_t word) {
     if (WRONG_MASK == 9) length -= length % 4; /* 9: trailing bytes are dropped */
     struct outcome outcome = walk(tree, length, word);
-    int kept = (WRONG_MASK == 3 && outcome.number == 9) ||                     /* 3: the bits before a damaged node */
-               (WRONG_MASK == 4 && outcome.number == 7) ||                     /* 4: the bits for a word that is too high */
-               (WRONG_MASK == 10 && outcome.number == 8 && length % 4 == 0);   /* 10: the bits under a wrong header */
+    int kept = (WRONG_MASK == 3 && outcome.number == 9) ||                /* 3: the bits before a damaged node */
+               (WRONG_MASK == 4 && outcome.number == 7) ||                /* 4: the bits for a word that is too high */
+               (WRONG_MASK == 10 && outcome.number == 8 && length >= 4); /* 10: the bits under a wrong header */
     if (outcome.number != 0 && !kept) return 0;
     if (WRONG_MASK == 5) return word; /* 5: the word for its mask */
     uint32_t width = word_at(tree, 0) >> 16 & 63;
