@@ -1,4 +1,5 @@
-"""Compares request 7 of probe (check) with the second implementation, line for line.
+"""Compares request 7 of probe (check) with the second implementation, line for line. It also walks the trees that
+are accepted, where a walk's count is the number of ones in its mask, and some that test a bit twice.
 
 Usage: compare_check.py [path of probe]. Exits with status 1 at the first difference.
 """
@@ -8,6 +9,7 @@ from collections import Counter
 from dataclasses import dataclass
 from itertools import islice
 
+import masks
 import probe
 from second import checktrees, examples, tables, trees
 from second.checker import PARTS, first_missing_once
@@ -16,6 +18,7 @@ from second.reader import read
 from second.tree import conflict_word, nodes_of, written
 
 SEED = 7
+WALK_SEED = 701         # words to walk; the other draws don't depend on them
 TABLES = 900
 USUAL_NODES = 80        # larger trees are made on purpose only, because Python is slow
 SMALL_NODES = 9         # trees of at most that many nodes are altered in every way
@@ -239,12 +242,32 @@ def count(tally, name, words, tree, seen):
 
 
 def compare(path, rng, tally):
-    cases = all_cases(rng)
+    cases, walk_rng = all_cases(rng), random.Random(WALK_SEED)
     while group := list(islice(cases, AT_ONCE)):
         questions = [("check", words, tree) for _, words, tree in group]
+        to_walk = []
         for (name, words, tree), question, seen in zip(group, questions, probe.ask(path, questions), strict=True):
             probe.stop_at_difference(name, question, line_of(question), seen)
             count(tally, name, words, tree, seen)
+            if seen == examples.ACCEPTED or name == "tested again":
+                to_walk.append((seen == examples.ACCEPTED, tree))
+        walk_some(path, walk_rng, to_walk, tally)
+
+
+def walk_some(path, rng, to_walk, tally):
+    """Walks each tree with a word, and what is accepted with one more that agrees on the mask. to_walk: (accepted, tree)"""
+    questions = [("walk", tree, rng.getrandbits(tree[0] >> 16 & 0x3F)) for _, tree in to_walk]
+    walked = []
+    for (accepted, tree), question, seen in zip(to_walk, questions, probe.ask(path, questions), strict=True):
+        probe.stop_at_difference("walk", question, line_of(question), seen)
+        tests, mask = masks.tests_and_mask(seen)
+        if accepted:
+            masks.check_ones("accepted", question, tests, mask)
+            walked.append((tree, question[2], seen))
+            tally["accepted, walked with tests"] += tests > 0
+        else:
+            tally["a bit tested twice"] += mask.bit_count() < tests
+    masks.compare_agreeing(path, rng, walked, tally)
 
 
 LEAST = {
@@ -262,6 +285,7 @@ LEAST = {
     "another width: 14": 1000, "a shared side: 14": 300, "unused nodes: 14": 400, "a gap: 14": 300, "one side moved: 14": 1500,
     "tested again: 14": 1000, "collapsed: 14": 700, "leaf changed: 14": 2000, "sides swapped: 14": 200,
     "another table's tree: 14": 400, "foreign: 14": 500, "flipped: 14": 150, "ambiguous: 14": 50, "ambiguous, named: 14": 50,
+    "accepted, walked with tests": 2500, "words that agree": 2500, "a bit tested twice": 300,
 }
 
 
@@ -274,7 +298,9 @@ def main():
     refused = ", ".join(f"{number}: {tally[str(number)]}" for number in (1, 2, 3, 4, 14))
     parts = ", ".join(f"{tally[f'14, part {part}']}" for part in range(1, len(PARTS) + 1))
     print(f"compare_check good: {tally['checks']} checks, {len(examples.CHECK_EXAMPLES)} of them also by hand; "
-          f"yes: {tally['yes']}, {refused} (by the first part missed, 1 to 8: {parts})")
+          f"yes: {tally['yes']}, {refused} (by the first part missed, 1 to 8: {parts}); "
+          f"walked: {tally['accepted, walked with tests']} accepted trees with tests, {tally['words that agree']} other words "
+          f"that agree on a mask, {tally['a bit tested twice']} walks that test a bit twice")
 
 
 if __name__ == "__main__":

@@ -13,6 +13,7 @@ from collections import Counter
 from dataclasses import dataclass, replace
 from pathlib import Path
 
+import masks
 import mktree
 import probe
 
@@ -32,6 +33,7 @@ from second.selection import AMBIGUOUS, NOTHING, select
 from second.tree import nodes_once
 
 SEED = 9
+MASK_SEED = 901                 # words that agree on a mask; the other draws don't depend on them
 DECODERS = {"avr": decoders.avr, "riscv": decoders.riscv, "a32": decoders.a32, "buoy": decoders.buoy}
 RANDOM_WORDS = 5400
 WORDS_AT_LEAST_EACH = 30        # words made of each entry, and as many neighbours
@@ -194,6 +196,17 @@ def compare_known(path, one, tally):
         tally["known"] += 1
 
 
+def compare_masks(path, one, tree, tally):
+    """The known words walked: the second implementation's line, as many ones in the mask as tests, and words that agree on it."""
+    questions = [("walk", tree, word) for word in KNOWN[one.name]]
+    walked = []
+    for question, line in zip(questions, probe.ask(path, questions), strict=True):
+        probe.stop_at_difference(f"{one.name}, walk", question, line_of(question), line)
+        masks.check_ones(one.name, question, *masks.tests_and_mask(line))
+        walked.append((tree, question[2], line))
+    masks.compare_agreeing(path, random.Random(MASK_SEED), walked, tally)
+
+
 def listed_name(one, item):
     """Kind 12 has an entry, kind 13 nothing, kind 14 is an instruction that the image's end cuts off."""
     if item >> 28 == 12:
@@ -288,6 +301,7 @@ def try_added(path, mktree_path, rng):
 
 def least(sets):
     needed = {"known": 90, "listed": len(AVR_LISTING), "altered": ALTERED * len(sets), "tree lines": 10000}
+    needed |= {"words that agree": 60}
     for one in sets:
         needed |= {one.name: 20000, f"{one.name}, made": 7000, f"{one.name}, neighbours": 7000}
         needed |= {f"{one.name}, entry {NOTHING}": 300}
@@ -306,6 +320,7 @@ def main():
         tree = compare_tree(path, mktree_path, one, tally)
         compare_readme(one, tree)
         compare_known(path, one, tally)
+        compare_masks(path, one, tree, tally)
         compare_words(path, rng, one, tally)
         notice_altered(rng, one, tally)
         if one.name == "avr":
@@ -316,7 +331,8 @@ def main():
     probe.require_enough(tally, least(sets))
     said = ", ".join(f"{one.name}: {tally[one.name]}" for one in sets)
     print(f"compare_data good: {len(sets)} sets, {tally['tree lines']} tree words; words by set {said}; "
-          f"{tally['known']} known words, {tally['listed']} items listed, {tally['altered']} altered sets noticed; "
+          f"{tally['known']} known words and {tally['words that agree']} that agree on a mask, "
+          f"{tally['listed']} items listed, {tally['altered']} altered sets noticed; "
           f"{tally['added']} tables added by others")
 
 

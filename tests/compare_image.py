@@ -1,5 +1,6 @@
 """Compares requests 8 and 9 of probe (a step of the lister, a whole listing) with the second implementation, line for line;
-then follows probe's own steps through an image and compares their items with probe's own listing, without the second one.
+then each step's mask with probe's own walk of the word there, and probe's own steps through an image with its own listing, both
+without the second one.
 
 Usage: compare_image.py [path of probe]. Exits with status 1 at the first difference.
 """
@@ -8,6 +9,7 @@ import random
 from collections import Counter
 from dataclasses import dataclass
 
+import masks
 import probe
 from second import checktrees, examples, images, tables, trees
 from second.lines import line_of
@@ -217,20 +219,42 @@ def count(tally, name, what, question, seen):
 
 def compare_by_hand(path):
     """Literal lines, which don't rest on the second implementation."""
-    lines = probe.ask(path, [question for _, question, _ in examples.IMAGE_EXAMPLES])
-    for (name, question, expected), seen in zip(examples.IMAGE_EXAMPLES, lines, strict=True):
+    by_hand = examples.IMAGE_EXAMPLES + examples.STEP_MASK_EXAMPLES
+    lines = probe.ask(path, [question for _, question, _ in by_hand])
+    for (name, question, expected), seen in zip(by_hand, lines, strict=True):
         probe.stop_at_difference(name, question, expected, seen)
 
 
 def compare(path, rng, tally):
     for source in (hand_written(), small_images(rng), long_images(rng)):
-        cases = []
+        cases, stepped = [], []
         for name, questions in source:
             tally["images"] += 1
             cases += [(name, what, question) for what, question in questions]
         for (name, what, question), seen in zip(cases, probe.ask(path, [case[2] for case in cases]), strict=True):
             probe.stop_at_difference(f"{name}, {what}", question, line_of(question), seen)
             count(tally, name, what, question, seen)
+            if seen.startswith("8 0 ") and not seen.endswith(" end"):
+                stepped.append((question, seen))
+        compare_masks(path, stepped, tally)
+
+
+def word_at(image, address):
+    """The halfword there above the next one; what is missing is zero."""
+    upper, lower = (int.from_bytes(image[2 * at:2 * at + 2], "little") for at in (address, address + 1))
+    return upper << 16 | lower
+
+
+def compare_masks(path, stepped, tally):
+    """The mask that a step hands on is that of the walk of the word at its address, whatever the item's kind: both by probe."""
+    walks = [("walk", tree, word_at(image, address)) for (_, _, tree, image, address), _ in stepped]
+    for (question, seen), walk, line in zip(stepped, walks, probe.ask(path, walks), strict=True):
+        tests, mask = masks.tests_and_mask(line)
+        probe.stop_at_difference("the mask of a step", question, f"{seen[:-8]}{mask:08x}", seen)
+        masks.check_ones("a step's walk", walk, tests, mask)
+        kind = KINDS[seen.split(" ")[4][0]]
+        tally[f"mask, {kind}"] += 1
+        tally[f"mask, {kind}, the lower half tested"] += mask & 0xFFFF != 0
 
 
 def follow_steps(path, rng, tally):
@@ -242,7 +266,7 @@ def follow_steps(path, rng, tally):
         lines = probe.ask(path, asked + [("list", one.words, one.tree, image, marks(halves))])
         address, items = 0, []
         while not lines[address].endswith(" end"):
-            *_, item, following = lines[address].split(" ")
+            *_, item, following, _ = lines[address].split(" ")
             items.append(item)
             if not address < int(following) <= halves:
                 probe.stop_at_difference("a step leaves the image", asked[address], "an address further on", lines[address])
@@ -264,6 +288,8 @@ LEAST = {
     "17 beyond sixteen bits": 6, "letters: 0": 80, **{f"list, entry {number:02x}": 2 for number in range(256)},
     "15: 15": 800, "15 before 16: 15": 800, "15 before 16 and 14: 15": 800, "16 before 14: 16": 400,
     "wrong tree: 14": 2000, "odd: 16": 2000, "empty: 0": 2000, "steps followed": 200,
+    "mask, kind 12": 2500, "mask, kind 13": 1000, "mask, kind 14": 400, "mask, kind 12, the lower half tested": 300,
+    "mask, kind 13, the lower half tested": 100, "mask, kind 14, the lower half tested": 100,
 }
 
 
@@ -279,8 +305,9 @@ def main():
     steps_said = ", ".join(f"{one}: {tally[f'step {one}']}" for one in numbers[:-1])
     lists_said = ", ".join(f"{one}: {tally[f'list {one}']}" for one in numbers)
     items = ", ".join(f"{one}: {tally[f'list, {one}']}" for one in KINDS.values())
+    walked = ", ".join(f"{one}: {tally[f'mask, {one}']}" for one in KINDS.values())
     print(f"compare_image good: {tally['images']} images; steps by number {steps_said}; listings by number {lists_said}; "
-          f"items listed, {items}; {tally['steps followed']} steps followed")
+          f"items listed, {items}; {tally['steps followed']} steps followed; masks walked, {walked}")
 
 
 if __name__ == "__main__":

@@ -1,14 +1,16 @@
-"""Compares requests 3, 4 and 10 of probe (generate, the walk exported to C, walk on words) with the second
-implementation, line for line; then checks probe's own trees against probe's own lookups, without the second one.
+"""Compares requests 3, 4, 10 and 11 of probe (generate, the walk exported to C, walk on words, the mask exported to C) with the
+second implementation, line for line; then checks probe's own trees against probe's own lookups, and its masks against its counts
+and against each other, without the second one.
 
 Usage: compare_tree.py [path of probe]. Exits with status 1 at the first difference.
 """
 
 import random
 import sys
-from collections import Counter
+from collections import Counter, defaultdict
 from dataclasses import dataclass
 
+import masks
 import probe
 from second import examples, selection, tables, trees
 from second.lines import line_of
@@ -16,11 +18,13 @@ from second.reader import Refusal, read
 from second.tree import MOST_TREE_WORDS, nodes_of
 
 SEED = 3
+MASK_SEED = 301         # words that agree on a mask; the other draws don't depend on them
 TABLES = 1200
 USUAL_NODES = 1000      # larger trees are made on purpose only, because Python is slow
 SMALL_NODES = 9         # trees of at most that many nodes are damaged in every way
 ALL_WORDS_WIDTH = 10    # up to that width every word is walked
 AT_ONCE = 60            # tables whose walks are asked in one go
+AGREEING_EACH = 6       # every so many-th walk of a wider tree is asked again with a word that agrees on its mask
 
 
 @dataclass
@@ -182,6 +186,49 @@ def taken_apart(line):
     return result >> 32 & 0xFF, result >> 48, named, result >> 16 & 0xFFFF
 
 
+def masks_of(path, asked, tally):
+    """The mask of each walk. asked: (name, question, line). Request 10 has it in its line; after request 4 comes request 11."""
+    questions = [("mask", *question[1:]) for _, question, _ in asked if question[0] == "walk bytes"]
+    answers = zip(questions, probe.ask(path, questions), strict=True)
+    for name, question, line in asked:
+        if question[0] == "walk bytes":
+            question, line = next(answers)
+            probe.stop_at_difference(f"{name}, mask", question, line_of(question), line)
+            tally["request 11"] += 1
+        yield masks.mask_in(line)
+
+
+def check_mask(name, question, seen, mask, tally):
+    """A refused walk has mask 0. On any tree the ones are at most the tests, and fewer where a bit is tested twice."""
+    number, _, _, count = taken_apart(seen)
+    if number and mask != 0 or mask.bit_count() > count:
+        probe.stop_at_difference(f"{name}, its mask", question, "0 if refused, else at most as many ones as tests",
+                                 f"{seen}, mask {mask:08x}")
+    request = seen.split(" ")[0]
+    if number == 0:
+        tally[f"request {request}, a bit tested twice"] += mask.bit_count() < count
+    elif request == "4":
+        tally[f"mask 0 for {number}"] += 1
+        tally["mask 0 for an odd length"] += len(question[1]) % 4 != 0
+
+
+def check_pairs(tree, answers, tally):
+    """Of the words of a tree, each two that agree on the mask of one of them have the same answer: named, count and mask."""
+    known = {(mask, word & mask): (named, count, mask) for word, (named, count, mask) in answers.items()}
+    tested = {mask for mask, _ in known}
+    for word, answer in answers.items():
+        for mask in tested:
+            other = known.get((mask, word & mask), answer)
+            if other != answer:
+                probe.stop_at_difference(f"a word that agrees on the mask {mask:08x}", ("walk", tree, word),
+                                         masks.walk_line(*other), masks.walk_line(*answer))
+    width = tree[0] >> 16 & 0x3F
+    if len(answers) == 1 << width:
+        tally["trees with every word"] += 1
+        tally[f"trees with every word, width {width}"] += 1
+        tally["words of these trees"] += len(answers)
+
+
 def check_against_lookup(words, tree, word, walked, looked_up):
     """probe's walk and probe's lookup, and the second lookup, say the same of a word; walks know no other refusal than 7."""
     number, _, named, count = taken_apart(walked)
@@ -205,20 +252,43 @@ def count_walk(tally, what, seen):
         tally["walks with tests"] += 1
 
 
+def walks_to_ask(rng, generated):
+    """(table's words, tree, word, question)"""
+    for plan, words, tree, left in generated:
+        for word in words_to_walk(rng, plan, tree):
+            # Words lent after the tree change nothing.
+            lent = tree + left if rng.random() < 0.3 else tree
+            yield words, tree, word, walk_question(rng.random() < 0.5, lent, word)
+
+
 def compare_walks(path, rng, generated, tally):
+    """The trees with what each of their words got: (tree, {word: (named, count, mask)})."""
+    answered = defaultdict(dict)
     for start in range(0, len(generated), AT_ONCE):
-        asked = []
-        for plan, words, tree, left in generated[start:start + AT_ONCE]:
-            for word in words_to_walk(rng, plan, tree):
-                # Words lent after the tree change nothing.
-                lent = tree + left if rng.random() < 0.3 else tree
-                asked.append((words, tree, word, walk_question(rng.random() < 0.5, lent, word)))
+        asked = list(walks_to_ask(rng, generated[start:start + AT_ONCE]))
         walked = probe.ask(path, [question for *_, question in asked])
         looked_up = probe.ask(path, [("lookup", words, word) for words, _, word, _ in asked])
-        for (words, tree, word, question), seen, found in zip(asked, walked, looked_up, strict=True):
+        found_masks = masks_of(path, [("generated", question, seen) for (*_, question), seen in zip(asked, walked)], tally)
+        for (words, tree, word, question), seen, found, mask in zip(asked, walked, looked_up, found_masks, strict=True):
             probe.stop_at_difference("walk of a generated tree", question, line_of(question), seen)
             check_against_lookup(words, tree, word, seen, found)
+            check_mask("generated", question, seen, mask, tally)
             count_walk(tally, "generated", seen)
+            number, _, named, count = taken_apart(seen)
+            if number == 0:
+                masks.check_ones("generated", question, count, mask)
+                answered[id(tree)][word] = named, count, mask
+    return [(tree, answered[id(tree)]) for _, _, tree, _ in generated]
+
+
+def compare_pairs(path, answered, tally):
+    """All pairs of the words that were walked; where these are few of the width, also other words that agree."""
+    again = []
+    for tree, answers in answered:
+        check_pairs(tree, answers, tally)
+        if tree[0] >> 16 & 0x3F > ALL_WORDS_WIDTH:
+            again += [(tree, word, masks.walk_line(*answers[word])) for word in list(answers)[::AGREEING_EACH]]
+    masks.compare_agreeing(path, random.Random(MASK_SEED), again, tally)
 
 
 # ---------------------------------------------------------------------------- other trees
@@ -302,8 +372,11 @@ def other_questions(rng, generated):
 
 def compare_other_trees(path, rng, generated, tally):
     questions = list(other_questions(rng, generated))
-    for (what, question), seen in zip(questions, probe.ask(path, [question for _, question in questions]), strict=True):
+    lines = probe.ask(path, [question for _, question in questions])
+    asked = [(what, question, seen) for (what, question), seen in zip(questions, lines, strict=True)]
+    for (what, question, seen), mask in zip(asked, masks_of(path, asked, tally), strict=True):
         probe.stop_at_difference(what, question, line_of(question), seen)
+        check_mask(what, question, seen, mask, tally)
         count_walk(tally, what.split(",")[0].split(" and ")[0], seen)
 
 
@@ -325,6 +398,10 @@ LEAST = {
     "header nodes entry": 20, "header nodes nothing": 20,
     "foreign entry": 500, "foreign nothing": 500, "foreign 7": 200, "foreign 9": 300,
     "longest path entry": 2, "cut bytes 8": 800, "bytes after it 8": 300,
+    "request 11": 50000, "mask 0 for 7": 3000, "mask 0 for 8": 3000, "mask 0 for 9": 10000, "mask 0 for an odd length": 1000,
+    "request 4, a bit tested twice": 300, "request 10, a bit tested twice": 300,
+    "trees with every word": 250, **{f"trees with every word, width {width}": 15 for width in range(1, ALL_WORDS_WIDTH + 1)},
+    "words of these trees": 50000, "words that agree": 3000,
 }
 
 
@@ -333,12 +410,15 @@ def main():
     rng = random.Random(SEED)
     tally = Counter()
     generated = compare_generating(path, rng, tally)
-    compare_walks(path, rng, generated, tally)
+    compare_pairs(path, compare_walks(path, rng, generated, tally), tally)
     compare_other_trees(path, rng, generated, tally)
     probe.require_enough(tally, LEAST)
     generate = ", ".join(f"{one}: {tally[f'generate {one}']}" for one in ("answered", "1", "2", "3", "4", "5", "6"))
     walk = ", ".join(f"{one}: {tally[f'walk {one}']}" for one in ("entry", "nothing", "7", "8", "9"))
-    print(f"compare_tree good: {TABLES} random tables, {len(generated)} trees; generate {generate}; walk {walk}")
+    twice = tally["request 4, a bit tested twice"] + tally["request 10, a bit tested twice"]
+    print(f"compare_tree good: {TABLES} random tables, {len(generated)} trees; generate {generate}; walk {walk}; "
+          f"masks by request 11: {tally['request 11']}, {twice} walks test a bit twice; {tally['trees with every word']} trees "
+          f"with every word: {tally['words of these trees']}; {tally['words that agree']} other words that agree on a mask")
 
 
 if __name__ == "__main__":

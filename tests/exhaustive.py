@@ -9,9 +9,9 @@ Usage: exhaustive.py [path of probe] [long]. Exits with status 1 at the first di
 - long: two entries, the first with every condition without unmatching patterns
 
 Each table is looked up with all words and two that are too high, generated into 16 words (each tree of width 3 fits) and into as
-many as its tree has and one fewer; its tree is checked and walked with all words. Tables without conditions are also checked with all
-trees of one and three nodes (two entries: a part of them but for the long form). At the end mistakes are put into the
-second implementation one by one, and each must give another line somewhere.
+many as its tree has and one fewer; its tree is checked and walked with all words, and each walk's count is the number of ones in
+its mask. Tables without conditions are also checked with all trees of one and three nodes (two entries: a part of them but for the
+long form). At the end mistakes are put into the second implementation one by one, and each must give another line somewhere.
 """
 
 import itertools
@@ -19,8 +19,9 @@ import random
 import sys
 from collections import Counter
 
+import masks
 import probe
-from second import checker, selection, tree
+from second import checker, selection, tree, walk, wrong_masks
 from second.lines import line_of
 from second.reader import Refusal
 from second.tables import EntryPlan, TablePlan, free_runs, lay_out, own_bits
@@ -133,6 +134,8 @@ def compare(path, long):
             tally[f"{question[0]} {parts[1]}"] += 1
             tally[question[0]] += 1
             tally["questions"] += 1
+            if question[0] == "walk" and parts[1] == "0":
+                masks.check_ones(name, question, *masks.tests_and_mask(seen))
     return tally
 
 
@@ -184,8 +187,12 @@ MISTAKES = [
     ("lowest bit tested", "chosen_bit", lowest_of_all),
     ("word 0 for every ambiguous table", "conflict_word", conflict_of_ones),
     ("the checker says yes", "first_missing", every_check_good),
+    ("bit 0 in every mask", "walk", wrong_masks.starts_at_one),
+    ("a mask without the zero sides", "walk", wrong_masks.zero_sides_left_out),
+    ("a mask without the last test", "walk", wrong_masks.last_test_left_out),
+    ("as many ones from bit 0 on", "walk", wrong_masks.as_many_ones),
 ]
-MODULES = {"selection": selection, "tree": tree, "checker": checker}
+MODULES = {"selection": selection, "tree": tree, "checker": checker, "walk": walk}
 RIGHT = {(name, function): getattr(module, function) for name, module in MODULES.items() for _, function, _ in MISTAKES
          if hasattr(module, function)}
 REMEMBERED = (tree.nodes_once, checker.steps_once, checker.first_missing_once, checker.check_once)

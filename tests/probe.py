@@ -33,14 +33,14 @@ def part_of(value):
 
 # The requests in the order of their numbers, from 1, and what a call takes from each part: words, bytes or a number.
 FORMS = {"read": "W", "lookup": "WN", "generate": "WW", "walk bytes": "BN", "decode": "WNW", "encode": "WNW", "check": "WW",
-         "step": "WWBN", "list": "WWBW", "walk": "WN"}
+         "step": "WWBN", "list": "WWBW", "walk": "WN", "mask": "BN"}
 NAMES = list(FORMS)
 
 
 def request_of(question):
     """The words of a request. A question is ("read", table), ("lookup", table, word), ("generate", table, buffer),
     ("walk bytes", bytes, word), ("decode", table, word, buffer), ("encode", table, entry, values), ("check", table, tree),
-    ("step", table, tree, image, address), ("list", table, tree, image, buffer) or ("walk", tree, word)."""
+    ("step", table, tree, image, address), ("list", table, tree, image, buffer), ("walk", tree, word) or ("mask", bytes, word)."""
     name, *parts = question
     return [NAMES.index(name) + 1, len(parts), *(word for part in parts for word in part_of(part))]
 

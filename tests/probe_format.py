@@ -88,7 +88,9 @@ def parts_not_there():
     yield "check, no tree", bytes_of([7, 1, *printed]), ["7 14 0 00000000"]
     yield "step, no parts", bytes_of([8, 0]), ["8 1 0 00000000"]
     yield "list, no parts", bytes_of([9, 0]), ["9 1 0 00000000 |"]
-    yield "walk, no word", bytes_of([10, 1, *probe.part_of(TREE)]), ["10 0 0 00000000 nothing 1"]
+    yield "walk, no word", bytes_of([10, 1, *probe.part_of(TREE)]), ["10 0 0 00000000 nothing 1 00000002"]
+    yield "mask, no parts", bytes_of([11, 0]), ["11 0 0 00000000 00000000"]
+    yield "mask, no word", bytes_of([11, 1, *probe.part_of(TREE)]), ["11 0 0 00000000 00000002"]
     # what comes next in the input is no part of it
     yield "nothing is taken from the next request", bytes_of([2, 1, *printed, *GOOD]), ["2 0 0 00000000 nothing", GOOD_LINE]
 
@@ -103,9 +105,11 @@ def words_of_parts():
         yield "a buffer, " + what, asked(5, PRINTED, 0, probe.pack(EIGHT) + rest), ["5 0 0 00000000 nothing | " + EIGHT_TEXT]
         yield "a buffer of no word, " + what, asked(3, [], rest), ["3 1 0 00000000 |"]
         yield "values, " + what, asked(6, PRINTED, 0, probe.pack([1]) + rest), ["6 0 0 00000000 00000003"]
-        yield "a tree of words, " + what, asked(10, tree + rest, 3), ["10 0 0 00000000 0 1"]
+        yield "a tree of words, " + what, asked(10, tree + rest, 3), ["10 0 0 00000000 0 1 00000002"]
         yield "a tree of bytes, " + what, asked(4, tree + rest, 3), \
             ["4 0 0 00000000 " + ("0000000800000000" if rest else "0000000000010000")]
+        yield "a tree of bytes for its mask, " + what, asked(11, tree + rest, 3), \
+            ["11 0 0 00000000 " + ("00000000" if rest else "00000002")]
         yield "an image, " + what, asked(9, image_table, [0x70200001, 0xA0000000], rest, [5]), \
             ["9 16 0 00000000 | 00000005" if len(rest) % 2 else f"9 0 0 00000000 {len(rest) // 2} | " + ("d0000000" if rest else "00000005")]
 
@@ -117,6 +121,7 @@ def numbers():
                        (probe.pack([3, 0]), "0"), (probe.pack([0, 3]), "nothing"), (probe.pack([3, 1, 4, 1, 5]), "0")):
         yield f"a number in {len(data)} bytes", asked(2, PRINTED, data) + bytes_of(GOOD), ["2 0 0 00000000 " + line, GOOD_LINE]
     yield "a number is 32 bits", asked(2, PRINTED, 0x80000003), ["2 7 0 00000000"]
+    yield "a word for its mask is 32 bits", asked(11, TREE, 0x80000003), ["11 0 0 00000000 00000000"]
     yield "an entry is 32 bits", asked(6, PRINTED, 0x80000000, [1]), ["6 11 0 00000000"]
     yield "an address is 32 bits", asked(8, [0x10000020], [0x70200001, 0xA0000000], b"\0\0", 0x80000000), ["8 0 0 00000000 end"]
 

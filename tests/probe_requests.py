@@ -1,4 +1,4 @@
-"""Tests of requests 2 to 10 as a whole (docs/probe.md): cut after each word, lengths too large, trailing bytes, parts left out
+"""Tests of requests 2 to 11 as a whole (docs/probe.md): cut after each word, lengths too large, trailing bytes, parts left out
 and added, and lines longer than probe's page. Whole requests get the second implementation's line.
 
 Usage: probe_requests.py [path of probe]. Exits with status 1 at the first difference. It stands beside probe.py.
@@ -24,6 +24,7 @@ QUESTIONS = [
     ("generate", PRINTED, EIGHT), ("generate", PRINTED, EIGHT[:3]), ("generate", [], EIGHT[:2]), ("generate", PRINTED, []),
     ("walk bytes", probe.pack(TREE), 3), ("walk bytes", probe.pack(TREE)[:15], 3), ("walk bytes", b"", 0),
     ("walk", TREE, 3), ("walk", TREE, 4), ("walk", [], 0),
+    ("mask", probe.pack(TREE), 3), ("mask", probe.pack(TREE), 4), ("mask", probe.pack(TREE) + b"\0", 3), ("mask", b"", 0),
     ("check", PRINTED, TREE), ("check", PRINTED, TREE[:3]), ("check", [], []),
     ("step", IMAGE_TABLE, IMAGE_TREE, IMAGE, 2), ("step", IMAGE_TABLE, IMAGE_TREE, IMAGE, 0xFFFFFFFF),
     ("step", IMAGE_TABLE, [], IMAGE[:4], 0), ("step", IMAGE_TABLE, IMAGE_TREE, IMAGE[:5], 0), ("step", [], [], b"", 0),

@@ -21,9 +21,9 @@ def check_worked(path):
     """The twelve marked words, walked on the tree that probe itself makes of the worked table."""
     line = probe.ask(path, [("generate", WORKED, [0] * 64)])[0]
     tree = [int(word, 16) for word in line.partition("| ")[2].split()]
-    questions = [("walk", tree, word) for word, _, _ in MARKED]
-    for question, (word, named, tests), seen in zip(questions, MARKED, probe.ask(path, questions), strict=True):
-        probe.stop_at_difference(f"worked table, {word:#04x}", question, f"10 0 0 00000000 {named} {tests}", seen)
+    questions = [("walk", tree, word) for word, *_ in MARKED]
+    for question, (word, named, tests, mask), seen in zip(questions, MARKED, probe.ask(path, questions), strict=True):
+        probe.stop_at_difference(f"worked table, {word:#04x}", question, f"10 0 0 00000000 {named} {tests} {mask:08x}", seen)
     return len(MARKED)
 
 

@@ -1,6 +1,6 @@
-"""Tables and questions written by hand, with the lines of docs/probe.md that document 01 asks for.
+"""Tables and questions written by hand, with the lines of docs/probe.md that document 01 asks for (masks: document 02's No. 1).
 
-Nothing here is computed by the second implementation: every number and place was written out by reading document 01.
+Nothing here is computed by the second implementation: every number, place and mask was written out by reading the documents.
 """
 
 
@@ -364,6 +364,10 @@ def walk_bytes(tree, word):
     return ("walk bytes", b"".join(one.to_bytes(4, "little") for one in tree), word)
 
 
+def mask(tree, word):
+    return ("mask", *walk_bytes(tree, word)[1:])
+
+
 LENT = [0x11111111 * digit for digit in range(1, 16)] + [0] * 25
 
 # The trees of these tables, made by hand with the steps of document 01.
@@ -380,12 +384,17 @@ WORKED_TREE = table("""7008001b
 # A foreign tree of width 2 that tests bit 0 twice: 1 tests bit 0, 2 tests bit 0, 3 is entry 9, 4 is entry 255.
 FOREIGN_TREE = table("70020004 80000003 80000004 90000009 900000ff")
 
-# The twelve marked words: the word, what is named and how many tests there are on its path, counted by hand.
-MARKED = [(0x00, "0", 6), (0x01, "4", 6), (0x02, "5", 6), (0x03, "0", 6), (0x11, "0", 4), (0x30, "6", 4), (0x40, "1", 3),
-          (0x70, "6", 4), (0x80, "2", 4), (0x81, "3", 4), (0x82, "nothing", 3), (0xC0, "nothing", 2)]
+# Width 2, bit 1 on both sides of a test of bit 1: 1 tests it, 2 tests it again, 3 and 4 are nothing, 5 is entry 0.
+TWICE_TREE = table("70020005 80800005 80800004 a0000000 a0000000 90000000")
+
+# The twelve marked words: the word, what is named, how many tests there are on its path, and the bits that they test, by hand.
+MARKED = [(0x00, "0", 6, 0xF3), (0x01, "4", 6, 0xF3), (0x02, "5", 6, 0xF3), (0x03, "0", 6, 0xF3), (0x11, "0", 4, 0xF0),
+          (0x30, "6", 4, 0xF0), (0x40, "1", 3, 0xE0), (0x70, "6", 4, 0xF0), (0x80, "2", 4, 0xC3), (0x81, "3", 4, 0xC3),
+          (0x82, "nothing", 3, 0xC2), (0xC0, "nothing", 2, 0xC0)]
 
 ZEROS_7 = "| " + " ".join(["00000000"] * 7)
 ZEROS_8 = "| " + " ".join(["00000000"] * 8)
+NO_MASK = "11 0 0 00000000 00000000"
 
 
 def tree_text(words):
@@ -428,12 +437,25 @@ TREE_EXAMPLES = [
      "3 0 0 00000000 10 | 70030009 81000003 a0000000 80800007 80000006 a0000000 90000000 80000009 a0000000 90000000"),
 
     # Word 0 selects the third; each path tests bits 2 and 0.
-    *[(f"0-0 added, walk of {word}", walk(WITH_THIRD_TREE, word), f"10 0 0 00000000 {named} 2")
+    *[(f"0-0 added, walk of {word}", walk(WITH_THIRD_TREE, word), f"10 0 0 00000000 {named} 2 00000005")
       for word, named in enumerate(["2", "0", "2", "0", "1", "nothing", "1", "nothing"])],
-    *[(f"the worked table, walk of {word:#04x}", walk(WORKED_TREE, word), f"10 0 0 00000000 {named} {tests}")
-      for word, named, tests in MARKED],
+    *[(f"the worked table, walk of {word:#04x}", walk(WORKED_TREE, word), f"10 0 0 00000000 {named} {tests} {tested:08x}")
+      for word, named, tests, tested in MARKED],
     *[(f"the worked table, walk of {word:#04x} as bytes", walk_bytes(WORKED_TREE, word),
-       f"4 0 0 00000000 {result_bits(named, tests)}") for word, named, tests in MARKED],
+       f"4 0 0 00000000 {result_bits(named, tests)}") for word, named, tests, _ in MARKED],
+    *[(f"the worked table, mask of {word:#04x}", mask(WORKED_TREE, word), f"11 0 0 00000000 {tested:08x}")
+      for word, _, _, tested in MARKED],
+    # The printed tree tests bit 1 on both paths.
+    *[(f"the printed tree, walk of {word}", walk(PRINTED_TREE, word), f"10 0 0 00000000 {named} 1 00000002")
+      for word, named in enumerate(["nothing", "nothing", "0", "0"])],
+    *[(f"the printed tree, mask of {word}", mask(PRINTED_TREE, word), "11 0 0 00000000 00000002") for word in range(4)],
+    # A bit tested twice is counted twice, and is in the mask once.
+    ("bit 1 twice, walk of 0", walk(TWICE_TREE, 0), "10 0 0 00000000 nothing 2 00000002"),
+    ("bit 1 twice, mask of 0", mask(TWICE_TREE, 0), "11 0 0 00000000 00000002"),
+    ("bit 1 twice, walk of 2", walk(TWICE_TREE, 2), "10 0 0 00000000 0 1 00000002"),
+    ("no test, walk", walk(table("70200001 900000ff"), 0xFFFFFFFF), "10 0 0 00000000 255 0 00000000"),
+    ("bit 31 alone, walk", walk(table("70200003 8f800003 a0000000 90000000"), 0), "10 0 0 00000000 nothing 1 80000000"),
+    ("bit 31 alone, mask", mask(table("70200003 8f800003 a0000000 90000000"), 0x80000000), "11 0 0 00000000 80000000"),
 
     # Walking: 8, 7, 9.
     ("walk of a high word", walk(WORKED_TREE, 0x100), "10 7 0 00000000"),
@@ -443,7 +465,7 @@ TREE_EXAMPLES = [
     ("walk of a header alone", walk(PRINTED_TREE[:1], 0), "10 8 0 00000000"),
     ("walk of a cut tree", walk(PRINTED_TREE[:3], 0), "10 8 0 00000000"),
     ("walk of a cut tree with a high word", walk(PRINTED_TREE[:3], 4), "10 8 0 00000000"),
-    ("walk with words after the tree", walk(PRINTED_TREE + [0xFFFFFFFF], 2), "10 0 0 00000000 0 1"),
+    ("walk with words after the tree", walk(PRINTED_TREE + [0xFFFFFFFF], 2), "10 0 0 00000000 0 1 00000002"),
     ("a byte too few", ("walk bytes", b"\x03\x00\x02\x70\x03\x00\x80\x80\x00\x00\x00\xa0\x00\x00\x00", 0),
      "4 0 0 00000000 0000000800000000"),
     ("a byte after it", ("walk bytes", b"\x01\x00\x02\x70\x00\x00\x00\xa0\x00", 0), "4 0 0 00000000 0000000800000000"),
@@ -451,12 +473,25 @@ TREE_EXAMPLES = [
     ("a damaged root and a high word", walk(table("70020001 00000000"), 4), "10 7 0 00000000"),
     ("a damaged root", walk(table("70020001 00000000"), 3), "10 9 1 00000000"),
     ("a damaged third node", walk_bytes(table("70020003 80800003 a0000000 90000100"), 2), "4 0 0 00000000 0003000900000000"),
-    ("a damaged third node, not on the path", walk(table("70020003 80800003 a0000000 90000100"), 1), "10 0 0 00000000 nothing 1"),
-    ("a foreign tree, zero side", walk(FOREIGN_TREE, 0), "10 0 0 00000000 9 2"),
-    ("a foreign tree, one side", walk(FOREIGN_TREE, 3), "10 0 0 00000000 9 1"),
+    ("a damaged third node, not on the path", walk(table("70020003 80800003 a0000000 90000100"), 1),
+     "10 0 0 00000000 nothing 1 00000002"),
+    ("a foreign tree, zero side", walk(FOREIGN_TREE, 0), "10 0 0 00000000 9 2 00000001"),
+    ("a foreign tree, one side", walk(FOREIGN_TREE, 3), "10 0 0 00000000 9 1 00000001"),
     ("the tested bit at the width", walk(table("70020003 81000003 a0000000 90000000"), 0), "10 9 1 00000000"),
     ("the one side at own + 1", walk(table("70020003 80800002 a0000000 90000000"), 0), "10 9 1 00000000"),
     ("the one side after the nodes", walk(table("70020003 80800004 a0000000 90000000 90000000"), 0), "10 9 1 00000000"),
+
+    # Refused, the mask is 0: 8, 7 and 9, also after tests that were passed.
+    ("mask of a high word", mask(WORKED_TREE, 0x100), NO_MASK),
+    ("mask of no bytes", mask([], 0), NO_MASK),
+    ("mask of a cut tree", mask(PRINTED_TREE[:3], 0), NO_MASK),
+    ("mask, a byte too few", ("mask", mask(PRINTED_TREE, 0)[1][:-1], 0), NO_MASK),
+    ("mask, a byte after it", ("mask", mask(PRINTED_TREE, 0)[1] + b"\0", 0), NO_MASK),
+    ("mask, a damaged root", mask(table("70020001 00000000"), 3), NO_MASK),
+    ("mask, a damaged third node", mask(table("70020003 80800003 a0000000 90000100"), 2), NO_MASK),
+    ("mask, a damaged third node, not on the path", mask(table("70020003 80800003 a0000000 90000100"), 1),
+     "11 0 0 00000000 00000002"),
+    ("mask with words after the tree", mask(PRINTED_TREE + [0xFFFFFFFF], 2), "11 0 0 00000000 00000002"),
 ]
 
 # "For the words, in hexadecimal, ... it prints"
@@ -604,8 +639,8 @@ IMAGE_EXAMPLES = [
 
     *[(f"a step at {address}", step(SHORT_OR_LONG, SHORT_OR_LONG_TREE, SIX_HALVES, address), f"8 0 0 00000000 {said}")
       # At 2 0002c000 is entry 0: a step may begin inside an instruction.
-      for address, said in enumerate(["c0000000 1", "c0100001 3", "c0000002 3", "d0000003 4", "c0000004 5", "e0000005 6",
-                                      "end", "end"])],
+      for address, said in enumerate(["c0000000 1 80000000", "c0100001 3 c0000000", "c0000002 3 80000000", "d0000003 4 c0000000",
+                                      "c0000004 5 80000000", "e0000005 6 c0000000", "end", "end"])],
     *[(f"a step at {address:#x}", step(SHORT_OR_LONG, SHORT_OR_LONG_TREE, SIX_HALVES, address), "8 0 0 00000000 end")
       for address in (0x10000, 0x7FFFFFFF, 0x80000000, 0x80000001, 0xFFFFFFFE, 0xFFFFFFFF)],
     ("a step in no image", step(SHORT_OR_LONG, SHORT_OR_LONG_TREE, "", 0), "8 0 0 00000000 end"),
@@ -626,5 +661,16 @@ IMAGE_EXAMPLES = [
     ("another tree, no word", listing(SHORT_OR_LONG, NO_TREE, "3412", 0), "9 14 0 00000000 |"),
     ("another tree, no image", listing(SHORT_OR_LONG, NO_TREE, "", 2), "9 14 0 00000000 | 11111111 22222222"),
     ("another tree, a step past the end", step(SHORT_OR_LONG, NO_TREE, "3412", 0xFFFFFFFF), "8 14 0 00000000"),
-    ("words lent after the tree, a step", step(SHORT_OR_LONG, SHORT_OR_LONG_TREE + [7], "0180", 0), "8 0 0 00000000 e0000000 1"),
+    ("words lent after the tree, a step", step(SHORT_OR_LONG, SHORT_OR_LONG_TREE + [7], "0180", 0),
+     "8 0 0 00000000 e0000000 1 c0000000"),
+]
+
+# Masks of steps: every kind of item, and bits tested in both halves.
+STEP_MASK_EXAMPLES = [
+    # The missing half is tested too: 80010000 has bits 31 and 0 tested; 00018000 has bit 31 alone.
+    ("a step at a cut entry, bit 0 tested", step(ZERO_BELOW, ZERO_BELOW_TREE, "0180", 0), "8 0 0 00000000 e0000000 1 80000001"),
+    ("a step at a short entry, bit 0 tested", step(ZERO_BELOW, ZERO_BELOW_TREE, "00800180", 0),
+     "8 0 0 00000000 c0000000 1 80000001"),
+    ("a step at nothing, bit 31 tested", step(ZERO_BELOW, ZERO_BELOW_TREE, "01000080", 0), "8 0 0 00000000 d0000000 1 80000000"),
+    ("a step, no test", step([0x10000020], NO_TREE, "34120180", 1), "8 0 0 00000000 d0000001 2 00000000"),
 ]

@@ -1,10 +1,12 @@
-"""Steps and listings of an image, written from document 01 alone (its "Checker and images"). Quotations are sentences of it.
+"""Steps and listings of an image, written from document 01 alone (its "Checker and images"), and a step's mask from document 02's
+No. 1. Quotations are sentences of document 01 where nothing else is said.
 
-What a word selects is looked up in the table; the tree is only checked and never walked.
+What a word selects is looked up in the table. The tree is checked, and walked for the mask alone: no item comes from a walk.
 """
 
 from functools import lru_cache
 
+from second import walk
 from second.checker import check_once
 from second.reader import Refusal
 from second.selection import AMBIGUOUS, NOTHING, read_once, select
@@ -92,8 +94,13 @@ def item_at(selecting, halves, address):
     return item_of(12, entry, address), next_address
 
 
+def mask_at(tree, halves, address):
+    # Document 02: "each step of the lister hands on its item's mask": that of the walk of the word at the address.
+    return walk.mask_or_zero(walk.walk(tree, word_at(halves, address)))
+
+
 def step(words, tree, image, address):
-    """The item and the next address, END or a Refusal."""
+    """The item, the next address and the item's mask, END or a Refusal."""
     # "A step takes an address, refuses as listing does but for 17, and at or past the image's end says end."
     refusal = refusal_before_items(words, tree, image)
     if refusal is not None:
@@ -101,7 +108,7 @@ def step(words, tree, image, address):
     halves = halfwords(image)
     if address >= len(halves):
         return END
-    return item_at(selecting_once(tuple(words)), halves, address)
+    return *item_at(selecting_once(tuple(words)), halves, address), mask_at(tree, halves, address)
 
 
 def list_items(words, tree, image, buffer):

@@ -1,11 +1,10 @@
 """The line of docs/probe.md that the second implementation gives for a question."""
 
-from second import selection
+from second import selection, walk
 from second.checker import check
 from second.image import END, list_items, step
 from second.reader import Refusal, read
 from second.tree import MOST_TREE_WORDS, generate
-from second.walk import walk, walk_bytes
 
 
 def refusal_text(outcome):
@@ -43,14 +42,18 @@ def generate_line(words, buffer):
 
 
 def walk_bytes_line(tree_bytes, word):
-    return f"4 0 0 00000000 {walk_bytes(tree_bytes, word):016x}"
+    return f"4 0 0 00000000 {walk.walk_bytes(tree_bytes, word):016x}"
+
+
+def mask_line(tree_bytes, word):
+    return f"11 0 0 00000000 {walk.mask_bytes(tree_bytes, word):08x}"
 
 
 def walk_line(tree, word):
-    outcome = walk(tree, word)
+    outcome = walk.walk(tree, word)
     if isinstance(outcome, Refusal):
         return "10 " + refusal_text(outcome)
-    return f"10 {refusal_text(outcome)} {outcome.names} {outcome.count}"
+    return f"10 {refusal_text(outcome)} {outcome.names} {outcome.count} {outcome.mask:08x}"
 
 
 def decode_line(words, word, buffer):
@@ -76,8 +79,8 @@ def step_line(words, tree, image, address):
         return "8 " + refusal_text(outcome)
     if outcome == END:
         return f"8 {refusal_text(outcome)} {END}"
-    item, next_address = outcome
-    return f"8 {refusal_text(outcome)} {item:08x} {next_address}"
+    item, next_address, mask = outcome
+    return f"8 {refusal_text(outcome)} {item:08x} {next_address} {mask:08x}"
 
 
 def list_line(words, tree, image, buffer):
@@ -88,11 +91,11 @@ def list_line(words, tree, image, buffer):
 def line_of(question):
     """A question is ("read", table), ("lookup", table, word), ("generate", table, buffer), ("walk bytes", bytes, word),
     ("decode", table, word, buffer), ("encode", table, entry, values), ("check", table, tree), ("step", table, tree, image,
-    address), ("list", table, tree, image, buffer) or ("walk", tree, word)."""
+    address), ("list", table, tree, image, buffer), ("walk", tree, word) or ("mask", bytes, word)."""
     name, *parts = question
     makers = {"read": read_line, "lookup": lookup_line, "generate": generate_line, "walk bytes": walk_bytes_line,
               "decode": decode_line, "encode": encode_line, "check": check_line, "step": step_line, "list": list_line,
-              "walk": walk_line}
+              "walk": walk_line, "mask": mask_line}
     return makers[name](*parts)
 
 

@@ -6,11 +6,12 @@ Prints one summary line; at the first failure it prints what failed and exits wi
 import random
 import sys
 from collections import Counter
+from dataclasses import replace
 from pathlib import Path
 
 sys.path.insert(0, str(Path(__file__).resolve().parent.parent))
 
-from second import checker, checktrees, examples, image, images, selection, tables, tree, trees, walk
+from second import checker, checktrees, examples, image, images, selection, tables, tree, trees, walk, wrong_masks
 from second.lines import line_of, mktree_text, read_line
 from second.reader import Refusal, Table, read
 
@@ -35,7 +36,8 @@ def line_or_fault(question):
 def wrong_examples():
     """The names of the hand-written examples that the second implementation doesn't meet."""
     wrong = [name for name, words, line in examples.READ_EXAMPLES if read_line(words) != line]
-    asked = examples.SELECTION_EXAMPLES + examples.TREE_EXAMPLES + examples.CHECK_EXAMPLES + examples.IMAGE_EXAMPLES
+    asked = examples.SELECTION_EXAMPLES + examples.TREE_EXAMPLES + examples.CHECK_EXAMPLES + examples.IMAGE_EXAMPLES \
+        + examples.STEP_MASK_EXAMPLES
     asked = asked + [("the bit of the most masks", ("generate", MOST_MASKS, [0] * 6), MOST_MASKS_LINE)]
     wrong += [name for name, question, line in asked if line_or_fault(question) != line]
     printed = b"".join(word.to_bytes(4, "little") for word in examples.PRINTED)
@@ -49,7 +51,7 @@ def check_examples():
     if wrong:
         fail(f"example: {wrong[0]}")
     return sum(len(some) for some in (examples.READ_EXAMPLES, examples.SELECTION_EXAMPLES, examples.TREE_EXAMPLES,
-                                      examples.CHECK_EXAMPLES, examples.IMAGE_EXAMPLES)) + 1
+                                      examples.CHECK_EXAMPLES, examples.IMAGE_EXAMPLES, examples.STEP_MASK_EXAMPLES)) + 1
 
 
 # Document 01's "Mistakes to exclude", and a few neighbours: with each of them made, an example must fail.
@@ -151,7 +153,7 @@ def leaf_counted(outcome):
     """Mistake: the leaf counts as a test."""
     if isinstance(outcome, Refusal):
         return RIGHT["packed"](outcome)
-    return RIGHT["packed"](walk.Walked(outcome.names, outcome.count + 1))
+    return RIGHT["packed"](replace(outcome, count=outcome.count + 1))
 
 
 def part_left_out(*parts):
@@ -231,10 +233,10 @@ MOST_MASKS = examples.table("""10030003 20000310 00000005 00000004 30000101 2000
 MOST_MASKS_LINE = "3 0 0 00000000 6 | 70030005 80000005 81000004 90000001 90000000 90000002"
 
 HOMES = {selection: ("satisfied", "more_specific", "select"), tree: ("entry_status", "condition_status", "chosen_bit",
-         "conflict_word"), walk: ("damaged", "header_good", "packed"),
+         "conflict_word"), walk: ("damaged", "header_good", "packed", "walk", "mask_bytes"),
          checker: ("widths_equal", "none_damaged", "one_sides_begin_right", "all_used", "no_bit_twice", "named_right",
                    "nothing_right", "first_step"),
-         image: ("word_at", "halfwords", "item_at", "no_image_table", "no_image", "refusal_before_items")}
+         image: ("word_at", "halfwords", "item_at", "no_image_table", "no_image", "refusal_before_items", "mask_at")}
 RIGHT = {name: getattr(home, name) for home, names in HOMES.items() for name in names}
 MISTAKES = [("satisfied", one_missed_is_enough, "0x00 A"),
             ("satisfied", unmatching_forgotten, "0x00 A"),
@@ -270,7 +272,19 @@ MISTAKES = [("satisfied", one_missed_is_enough, "0x00 A"),
             ("item_at", unknown_by_two, "six halfwords, 5 words"),
             ("no_image_table", width_alone, "a length of 24"),
             ("no_image", part_left_out, "no image, no word"),
-            ("refusal_before_items", tree_first, "an odd image, no tree, no word")]
+            ("refusal_before_items", tree_first, "an odd image, no tree, no word"),
+            ("walk", wrong_masks.starts_at_one, "the printed tree, walk of 0"),
+            ("walk", wrong_masks.zero_sides_left_out, "the printed tree, walk of 1"),
+            ("walk", wrong_masks.last_test_left_out, "the worked table, mask of 0x00"),
+            ("walk", wrong_masks.twice_is_not_at_all, "bit 1 twice, walk of 0"),
+            ("walk", wrong_masks.as_many_ones, "the printed tree, mask of 3"),
+            ("mask_bytes", wrong_masks.kept_at_a_damaged_node, "mask, a damaged third node"),
+            ("mask_bytes", wrong_masks.high_bits_left_out, "mask of a high word"),
+            ("mask_bytes", wrong_masks.odd_bytes_left_out, "mask, a byte after it"),
+            ("mask_bytes", wrong_masks.number_for_mask, "mask of a cut tree"),
+            ("mask_at", wrong_masks.word_for_mask, "a step at 1"),
+            ("mask_at", wrong_masks.nothing_has_none, "a step at 3"),
+            ("mask_at", wrong_masks.missing_half_untested, "a step at a cut entry, bit 0 tested")]
 
 
 def forget():
@@ -529,7 +543,7 @@ def check_tree_of(words, tally, asked):
             fail(f"word {word:x} is {wanted}, its leaf {leaves[0]}: {hexadecimal(words)}")
         if wanted == selection.AMBIGUOUS:
             ambiguous = True
-        elif walk.walk(written, word) != walk.Walked(wanted, len(tests)):
+        elif walk.walk(written, word) != walk.Walked(wanted, len(tests), sum(1 << node.bit for node in tests)):
             fail(f"word {word:x} is {wanted}, walked: {walk.walk(written, word)}: {hexadecimal(words)}")
         tally["walked words"] += 1
     if conflict is not None and selection.select(table, conflict) != selection.AMBIGUOUS:
@@ -661,11 +675,12 @@ def check_items(words, lent, data, tally):
         padded = data + bytes(2)
         upper, lower = (padded[2 * at] | padded[2 * at + 1] << 8 for at in (address, address + 1))
         named = walk.walk(lent, upper << 16 | lower).names
+        mask = sum(1 << bit for bit in trees.tested_bits(lent, upper << 16 | lower))
         length = 1 if named == selection.NOTHING else table.entries[named].length // 16
         kind = 13 if named == selection.NOTHING else 14 if address + length > halves else 12
         if item != kind << 28 | (named << 20 if kind == 12 else 0) | address:
             fail(f"item {item:08x} at {address}, but the walk names {named}: {hexadecimal(words)}, {data.hex()}")
-        if image.step(words, lent, data, address) != (item, min(address + length, halves)):
+        if image.step(words, lent, data, address) != (item, min(address + length, halves), mask):
             fail(f"the step at {address} isn't the item {item:08x}: {hexadecimal(words)}, {data.hex()}")
         address += length
         tally[f"items {kind}"] += 1

@@ -46,6 +46,15 @@ def word_to(rng, tree, index):
     return word
 
 
+def tested_bits(tree, word):
+    """The bits tested on the word's path, in order; no node on it may be damaged."""
+    at, tested = 1, []
+    while tree[at] >> 28 == TEST:
+        tested.append(tree[at] >> 23 & 0x1F)
+        at = tree[at] & 0xFFFF if word >> tested[-1] & 1 else at + 1
+    return tested
+
+
 # ---------------------------------------------------------------------------- damages
 
 def with_node(tree, index, node):

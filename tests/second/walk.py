@@ -1,4 +1,5 @@
-"""Walking a tree, written from document 01 alone (its "The tree of a table" and "Causes, numbers, places")."""
+"""Walking a tree, written from document 01 alone (its "The tree of a table" and "Causes, numbers, places"), and the mask from
+document 02's No. 1. Quotations are document 01's where nothing else is said."""
 
 from dataclasses import dataclass
 
@@ -8,9 +9,10 @@ from second.selection import NOTHING
 
 @dataclass(frozen=True)
 class Walked:
-    """A walk that finished: what its path names (an entry's number or NOTHING) and how many test nodes it passed."""
+    """A walk that finished: what its path names (an entry's number or NOTHING), how many test nodes it passed, and the mask."""
     names: object
     count: int
+    mask: int
 
 
 def header_good(tree):
@@ -53,30 +55,49 @@ def walk(tree, word):
         return Refusal(7)
     # "A word's path starts at index 1." It never leaves the nodes: the one side's index of a test that isn't damaged is
     # at least its own + 2 and at most the number of nodes.
-    index, tests = 1, 0
+    index, tests, mask = 1, 0, 0
     while True:
         node = tree[index]
         if damaged(node, index, width, count):
             return Refusal(9, place=index)
         kind = bits(node, 31, 28)
         if kind == 9:
-            return Walked(bits(node, 7, 0), tests)
+            return Walked(bits(node, 7, 0), tests, mask)
         if kind == 10:
-            return Walked(NOTHING, tests)
+            return Walked(NOTHING, tests, mask)
         # "A kind 8 node is one test: if the tested bit of the word is 0 the path goes on at the next tree word, else at
         # the one side's index."
         tests += 1
         tested = bits(node, 27, 23)
+        # Document 02: "The walk returns, beside its count, a 32-bit mask of the bits tested". A bit tested twice is in it once.
+        mask |= 1 << tested
         index = index + 1 if bits(word, tested, tested) == 0 else bits(node, 15, 0)
+
+
+def whole_words(tree_bytes):
+    # "the tree as bytes, each word low byte first"
+    return [int.from_bytes(tree_bytes[start:start + 4], "little") for start in range(0, len(tree_bytes) - 3, 4)]
+
+
+def walk_of_bytes(tree_bytes, word):
+    """Walked, or a Refusal."""
+    # "a length not a multiple of four gives 8."
+    return Refusal(8) if len(tree_bytes) % 4 != 0 else walk(whole_words(tree_bytes), word)
 
 
 def walk_bytes(tree_bytes, word):
     """The 64 bits that the walk returns to the simulator."""
-    # "the tree as bytes, each word low byte first; a length not a multiple of four gives 8."
-    if len(tree_bytes) % 4 != 0:
-        return packed(Refusal(8))
-    tree = [int.from_bytes(tree_bytes[start:start + 4], "little") for start in range(0, len(tree_bytes), 4)]
-    return packed(walk(tree, word))
+    return packed(walk_of_bytes(tree_bytes, word))
+
+
+def mask_or_zero(outcome):
+    # Document 02: "0 when refused".
+    return 0 if isinstance(outcome, Refusal) else outcome.mask
+
+
+def mask_bytes(tree_bytes, word):
+    """The 32 bits of document 02's "further C call"."""
+    return mask_or_zero(walk_of_bytes(tree_bytes, word))
 
 
 def packed(outcome):
