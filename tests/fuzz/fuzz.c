@@ -1,5 +1,6 @@
 /*
- * Hostile inputs for kilnumber_walk, kilnumber_check and kilnumber_list: what they answer against reference.h, and whether they touch other memory.
+ * Hostile inputs for kilnumber_walk, kilnumber_mask, kilnumber_check and kilnumber_list: what they answer against reference.h, and
+ * whether they touch other memory.
  *
  * Usage: fuzz trees lists walks listings (files of tests/c/make_trees.py and make_lists.py, then how many of each).
  * Inputs are altered at random; an input that came to a new place of the reference (check, index or tests passed) is kept and
@@ -72,7 +73,10 @@ static void require_same(const void *lent, const void *from, size_t bytes) {
 /* ------------------------------------------------------------------------- stand-in for the library */
 
 static unsigned wrong; /* a check that is left out, or one of these */
-enum { LEAF_COUNTED = LIST_END + 1, READS_PAST, WRITES_TREE, ITEM_AFTER, PLACE_AFTER, CHECK_IS_YES, CHECK_PLACE, LAST_WRONG };
+enum {
+    LEAF_COUNTED = LIST_END + 1, READS_PAST, WRITES_TREE, MASK_FROM_ONE, MASK_WHEN_REFUSED, MASK_READS_PAST,
+    ITEM_AFTER, PLACE_AFTER, CHECK_IS_YES, CHECK_PLACE, LAST_WRONG
+};
 
 #ifdef STAND_IN
 uint64_t kilnumber_walk(const uint8_t *tree, size_t length, uint32_t word) {
@@ -81,6 +85,14 @@ uint64_t kilnumber_walk(const uint8_t *tree, size_t length, uint32_t word) {
     struct walked walked = reference_walk(tree, length, word, (enum check)wrong);
     if (wrong == LEAF_COUNTED && walked.number == 0) walked.tests++;
     return packed(walked);
+}
+
+uint32_t kilnumber_mask(const uint8_t *tree, size_t length, uint32_t word) {
+    if (wrong == MASK_READS_PAST && ((const volatile uint8_t *)tree)[length] == 0) return 0;
+    struct walked walked = reference_walk(tree, length, word, NONE);
+    if (wrong == MASK_FROM_ONE && walked.number == 0) walked.mask |= 1;
+    if (wrong == MASK_WHEN_REFUSED) walked.mask |= walked.number;
+    return walked.mask;
 }
 
 uint64_t kilnumber_check(const uint32_t *table, size_t table_words, const uint32_t *tree, size_t tree_words) {
@@ -198,6 +210,12 @@ static int walk_and_compare(const uint8_t *tree, size_t length, uint32_t word) {
     if (seen != expected) {
         printf("fuzz: a walk of %zu bytes, word %08x: expected %016llx, seen %016llx\n", length, (unsigned)word,
                (unsigned long long)expected, (unsigned long long)seen);
+        exit(1);
+    }
+    uint32_t mask = kilnumber_mask(tree, length, word);
+    if (mask != walked.mask) {
+        printf("fuzz: a walk of %zu bytes, word %08x: expected the mask %08x, seen %08x\n", length, (unsigned)word,
+               (unsigned)walked.mask, (unsigned)mask);
         exit(1);
     }
     walks++;
@@ -468,7 +486,7 @@ int main(int arguments, char **argument) {
            (unsigned long long)(by_list_number[1] + by_list_number[2] + by_list_number[3] + by_list_number[4]),
            (unsigned long long)by_list_number[14], (unsigned long long)by_list_number[15], (unsigned long long)by_list_number[16],
            (unsigned long long)by_list_number[17]);
-    printf("fuzz good: %llu walks in %.1f s, %llu listings and as many checks in %.1f s; differences 0, faults 0; kept %zu trees over %zu given, %zu listings over %zu\n",
+    printf("fuzz good: %llu walks and masks in %.1f s, %llu listings and as many checks in %.1f s; differences 0, faults 0; kept %zu trees over %zu given, %zu listings over %zu\n",
            (unsigned long long)walks, between - before, (unsigned long long)listings, after - between, kept_count - given, given,
            list_count - given_lists, given_lists);
     return 0;

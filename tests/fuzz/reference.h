@@ -1,5 +1,6 @@
 /*
- * The walk, the check and the listing of document 01, written from that paper alone, for fuzz.c. Sentences in quotes are the paper's.
+ * The walk, the check and the listing of document 01, and the mask of document 02, written from these papers alone, for fuzz.c.
+ * Sentences in quotes are the papers'.
  *
  * Each check has a name, and a check is left out where its name is `without`: so the same text is the reference (NONE) and a row of
  * wrong ones, and the checks that a walk came by say how far an input got.
@@ -39,12 +40,12 @@ static uint32_t word_at(const uint8_t *bytes, size_t index) {
 /* ------------------------------------------------------------------------- the walk */
 
 struct walked {
-    uint32_t number, place, entry, nothing, tests;
+    uint32_t number, place, entry, nothing, tests, mask;
     enum check stopped_by; /* NONE if it finished */
 };
 
 static inline struct walked walk_stopped(enum check by, uint32_t number, uint32_t place) {
-    struct walked walked = {number, place, 0, 0, 0, by};
+    struct walked walked = {number, place, 0, 0, 0, 0, by};
     return walked;
 }
 
@@ -85,7 +86,7 @@ static inline struct walked reference_walk(const uint8_t *tree, size_t length, u
     enum check fault = header_fault(word_at(tree, 0), length / 4, without);
     if (fault != NONE) return walk_stopped(fault, 8, 0);
     if (width < 32 && word >> width != 0 && without != WORD_HIGH) return walk_stopped(WORD_HIGH, 7, 0);
-    struct walked walked = {0, 0, 0, 0, 0, NONE};
+    struct walked walked = {0, 0, 0, 0, 0, 0, NONE};
     for (uint32_t step = 0; step < MOST_STEPS && index < length / 4; step++) {
         uint32_t node = word_at(tree, index);
         fault = node_fault(node, index, width, nodes, without);
@@ -96,6 +97,7 @@ static inline struct walked reference_walk(const uint8_t *tree, size_t length, u
             return walked;
         }
         walked.tests++;
+        walked.mask |= (uint32_t)1 << (node >> 23 & 31); /* "a 32-bit mask of the bits tested", "0 when refused" */
         index = (word >> (node >> 23 & 31) & 1) == 0 ? index + 1 : node & 0xffff;
     }
     return walk_stopped(WALK_END, 255, 0); /* the right walk never comes here */
