@@ -12,8 +12,9 @@ use Rattle.table.specs.Check.{readTable}
 use Rattle.selection.specs.Selection.{select}
 use Rattle.tree.specs.Tree.{tree, size, named}
 use Rattle.tree.specs.Generate.{generateOf, bufferOf}
-use Rattle.flat.specs.Walk.{walkOf}
+use Rattle.flat.specs.Walk.{maskOf, ones, walkOf, maskOrZero}
 use Rattle.tree.proofs.Demand.{Right, walk-right}
+use Rattle.flat.proofs.Masks.{path-ones}
 use Rattle.walker.specs.Walked.{walkBytes}
 use Rattle.walker.proofs.Headers.{whole-bytes}
 use Rattle.kilnumber.specs.Packed.{packed, named as namedBits}
@@ -45,6 +46,14 @@ walk-bytes ws w = sym (whole-bytes (bytesOf ws) w (whole-words ws)) ∙ ap (λ (
 pub right-bits : (es : List Entry) (width n : ℕ) (words : List ℕ) (w : ℕ) (r : Right es width n words w)
     → packed (walkBytes (bytesOf words) w) ≡ namedBits (named (select es w)) + length (r .tests) * 2 ^ 16
 right-bits es width n words w r = ap packed (walk-bytes words w ∙ r .answers)
+
+-- and its mask: that of the path's tests, with as many ones
+pub right-mask : (es : List Entry) (width n : ℕ) (words : List ℕ) (w : ℕ) (r : Right es width n words w)
+    → (maskOrZero (walkBytes (bytesOf words) w) ≡ maskOf (r .tests)) × (length (r .tests) ≡ ones (maskOf (r .tests)))
+right-mask es width n words w r = (
+  ap maskOrZero (walk-bytes words w ∙ r .answers),
+  path-ones words width n w n 1 _ (r .tests) (r .walks) .1 (r .once),
+)
 
 -- a table that reads, a buffer into which its tree is generated, and any word of the width: the walk of the words written is right, and the
 -- simulator, lent their bytes, is answered so
