@@ -1,7 +1,7 @@
 """Makes what walk.c reads: trees, words to walk in each, and what the second implementation says of some of them.
 
-Usage: make_walk.py file            writes the file
-       make_walk.py table tree      reads a table's file, writes its tree
+Usage: make_walk.py file                  writes the file
+       make_walk.py table tree image      reads a table's file, writes its tree and an image that has all entries equally often
 
 The file is 32-bit words, low byte first: how many trees; for each tree its name (16 bytes), the tree as
 a run (how many words, then the words), the words to walk as a run, and a run of answers: word, low half, high half of its 64 bits.
@@ -86,16 +86,28 @@ def write_walks(file):
     Path(file).write_bytes(out)
 
 
-def write_tree(table, file):
-    tree = tree_of(words_in(table))
-    Path(file).write_bytes(struct.pack(f"<{len(tree)}I", *tree))
+def entry_bytes(rng, entry):
+    """An instruction of the entry with random operands, its upper half first, each low byte first."""
+    opcode = sum(1 << bit for bit in entry.opcode.value)
+    mask = sum(1 << bit for bit in entry.opcode.mask)
+    word = opcode | rng.getrandbits(32) & ~mask
+    halves = struct.pack("<HH", word >> 16, word & 0xFFFF)
+    return halves[:entry.length // 8]
+
+
+def write_tree_and_image(table, tree_file, image_file):
+    rng = random.Random(SEED)
+    words = words_in(table)
+    tree, entries = tree_of(words), read(words).entries
+    Path(tree_file).write_bytes(struct.pack(f"<{len(tree)}I", *tree))
+    Path(image_file).write_bytes(b"".join(entry_bytes(rng, rng.choice(entries)) for _ in range(WALKS)))
 
 
 def main():
     if len(sys.argv) == 2:
         write_walks(sys.argv[1])
-    elif len(sys.argv) == 3:
-        write_tree(*sys.argv[1:])
+    elif len(sys.argv) == 4:
+        write_tree_and_image(*sys.argv[1:])
     else:
         sys.exit(__doc__)
 
