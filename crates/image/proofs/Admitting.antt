@@ -33,7 +33,7 @@ use Rattle.image.specs.declared.Refusal.the-variants as refusal
 use Rattle.image.specs.declared.Admission.{Admission}
 use Rattle.image.specs.Address.{wordAt, halfwords}
 use Rattle.image.specs.Items.{itemAt, items}
-use Rattle.image.specs.Listing.{imageSize, imageTable, imageGood, refuseUnless, admitted, listFrom, listOf, bufferFrom, bufferOf, saidList, Lists, stepAt, stepFrom, stepOf, saidStep}
+use Rattle.image.specs.Listing.{imageSize, imageTable, imageGood, refuseUnless, admitted, listFrom, listOf, bufferFrom, bufferOf, saidList, Lists, handedOn, stepFrom, stepOf, saidStep}
 use Rattle.image.specs.Parts.{Admitted, saidRefusal, Admits, Fills}
 
 -- ---- 15: the entries' lengths, one by one
@@ -223,5 +223,5 @@ module _ (es : List Entry) (tree image : List ℕ) (at : HalfwordAddress) where
 
   pub step-item : at .0 < halfwords image → (i : Item) → i ≡ itemAt es image at → (m : ℕ) → m ≡ maskOrZero (walkOf tree (wordAt image at))
       → saidStep (stepped.Item (i .word) (i .next) m) ≡ stepFrom (result es) tree image at
-  unfolding stepFrom stepAt
+  unfolding stepFrom handedOn
   step-item h i q m k = rw (lt-leb (halfwords image) (at .0) h, q, k) refl

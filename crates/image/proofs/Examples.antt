@@ -12,7 +12,7 @@ use Rattle.image.specs.declared.HalfwordAddress.{HalfwordAddress}
 use Rattle.image.specs.Address.{halfwordAt, wordAt}
 use Rattle.image.specs.Items.{pickedBy, picked, foundWord, nothingWord, cutWord, itemOf, itemAt, itemsFrom, items}
 use Rattle.flat.specs.Walk.{path, maskOf, enters, walkOf}
-use Rattle.image.specs.Listing.{imageSize, imageTable, imageGood, refuseUnless, admitted, counted, filledWith, listFrom, listOf, bufferFrom, bufferOf, Step, stepAt, stepFrom, stepOf}
+use Rattle.image.specs.Listing.{imageSize, imageTable, imageGood, refuseUnless, admitted, counted, filledWith, listFrom, listOf, bufferFrom, bufferOf, Step, handedOn, stepFrom, stepOf}
 
 -- width 32: entry 0 has 16 bits, 0 and a field of 15; entry 1 has 32 bits, 10 and a field of 30; 11 is nothing
 abbrev table : List ℕ
@@ -52,7 +52,7 @@ item word next mask = result (some (record { item = record { word = word; next =
 
 -- listing by this table, with every definition open
 unfoldable pub lists : List ℕ → List ℕ → ℕ → Outcome ℕ
-unfolding verdict looks halfwordAt wordAt pickedBy picked foundWord nothingWord cutWord itemOf itemAt itemsFrom items imageSize imageTable imageGood refuseUnless admitted counted filledWith listFrom listOf bufferFrom bufferOf path maskOf enters walkOf stepAt stepFrom stepOf
+unfolding verdict looks halfwordAt wordAt pickedBy picked foundWord nothingWord cutWord itemOf itemAt itemsFrom items imageSize imageTable imageGood refuseUnless admitted counted filledWith listFrom listOf bufferFrom bufferOf path maskOf enters walkOf handedOn stepFrom stepOf
 lists tree image room = listOf (readTable table) tree image room
 
 -- ---- a whole listing

@@ -98,14 +98,14 @@ pub record Step : Type 0 where
   pub mask : ℕ
 
 -- the mask is that of the walk of the item's word
-unfoldable pub stepAt : List Entry → List ℕ → List ℕ → HalfwordAddress → Step
-stepAt es tree image a = record { item = itemAt es image a; mask = maskOrZero (walkOf tree (wordAt image a)) }
+unfoldable pub handedOn : List Entry → List ℕ → List ℕ → HalfwordAddress → Step
+handedOn es tree image a = record { item = itemAt es image a; mask = maskOrZero (walkOf tree (wordAt image a)) }
 
 -- "at or past the image's end says end", which is none
 unfoldable pub stepFrom : Outcome (List Entry) → List ℕ → List ℕ → HalfwordAddress → Outcome (Option Step)
 stepFrom (faulty n p) tree image a = faulty n p
 stepFrom (refused n p x) tree image a = refused n p x
-stepFrom (result es) tree image a = result (cond (leb (halfwords image) (a .0)) none (some (stepAt es tree image a)))
+stepFrom (result es) tree image a = result (cond (leb (halfwords image) (a .0)) none (some (handedOn es tree image a)))
 
 -- "A step takes an address, refuses as listing does but for 17"
 unfoldable pub stepOf : Outcome Table → List ℕ → List ℕ → HalfwordAddress → Outcome (Option Step)

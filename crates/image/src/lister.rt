@@ -60,7 +60,7 @@ fn word(image: &[u8], a: HalfwordAddress) -> u32
     )
 }
 
-// What a word selects. An accepted tree refuses no word, so that the last three cases are never met.
+// What a word selects. An accepted tree refuses no word, so that the last case is never met.
 fn pick(table: &[u32], places: &[u32; 256], tree: &[u32], w: u32) -> Picked
     requires { ⌜ Usable (now table) (now places) (now tree) ⌝ }
     ensures { λ r. ⌜ r ≡ picked (tableOf (now (table .entry)) .entries) w ⌝ }

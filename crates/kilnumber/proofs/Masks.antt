@@ -34,7 +34,7 @@ use Rattle.tree.proofs.Accepting.{accepted, accepted-right, generated-accepted}
 use Rattle.walker.specs.Walked.{walkBytes}
 use Rattle.image.specs.Address.{halfwordAt, wordAt, halfwords}
 use Rattle.image.specs.Items.{itemAt}
-use Rattle.image.specs.Listing.{imageTable, admitted, Step, stepAt, stepFrom, stepOf}
+use Rattle.image.specs.Listing.{imageTable, admitted, Step, handedOn, stepFrom, stepOf}
 use Rattle.image.specs.declared.HalfwordAddress.{HalfwordAddress}
 use Rattle.image.proofs.Admitting.{chain-passed}
 
@@ -126,18 +126,18 @@ word-small image at bytes =
     omega (arith, bytes o, bytes (o + 1), bytes p, bytes (p + 1))
 
 stepped : (o : Outcome (List Entry)) (tree image : List ℕ) (at : HalfwordAddress) (s : Step) → stepFrom o tree image at ≡ result (some s)
-    → (es : List Entry) × (o ≡ result es) × (s ≡ stepAt es tree image at)
+    → (es : List Entry) × (o ≡ result es) × (s ≡ handedOn es tree image at)
 unfolding stepFrom
 stepped (result es) tree image at s e =
     cases (leb (halfwords image) (at .0))
     (λ t. let q : result none ≡ result (some s) = rw t at e in absurd (let z : _≡_ {A = ℕ} 0 1 = cc in omega arith))
-    (λ t. let q : result (some (stepAt es tree image at)) ≡ result (some s) = rw t at e in (es, refl, cc))
+    (λ t. let q : result (some (handedOn es tree image at)) ≡ result (some s) = rw t at e in (es, refl, cc))
 stepped (faulty n p) tree image at s e = absurd (not-faulty (sym e))
 stepped (refused n p x) tree image at s e = absurd (not-refused (sym e))
 
 pub handed-on : (ws tree image : List ℕ) (at : HalfwordAddress) (s : Step) → ((i : ℕ) → getD image i 0 < 2 ^ 8)
     → stepOf (readTable ws) tree image at ≡ result (some s) → Handed ws tree image at s
-unfolding stepOf stepAt imageTable
+unfolding stepOf handedOn imageTable
 handed-on ws tree image at s bytes e =
     let (es, lets, is) = stepped (admitted (readTable ws) tree image) tree image at s e in
     let (t, reads, same-entries, wide, good, right) = chain-passed (readTable ws) tree image es lets in

@@ -31,7 +31,7 @@ said (walked.Unfinished n p) = refused n p 0
 unfoldable pub walkBytes : List ℕ → ℕ → Outcome Walk
 walkBytes bytes w = cond (eqb (length bytes % 4) 0) (walkOf (wordsOf bytes) w) (refused 8 0 0)
 
--- every part of the answer has its place in 64 bits: an entry below 256, a count and a place below 65,536
+-- every part of the answer but the mask has its place in 64 bits: an entry and a number below 256, a count and a place below 65,536
 abbrev pub Small : Walked → Type 0
 Small (walked.Entry e n m) = (e < 256) × (n < 65536)
 Small (walked.Nothing n m) = n < 65536
@@ -48,7 +48,7 @@ unfoldable pub enteredBytes : List ℕ → ℕ → Entered
 enteredBytes bytes w =
     cond (eqb (length bytes % 4) 0) (enteredOf (headerOf (word (wordsOf bytes) 0) (length (wordsOf bytes))) w) (entered.Shut 8)
 
--- there are nodes, and fewer than 65,536
+-- there are nodes, and fewer than 65,536; a number has eight bits
 abbrev pub EnteredBounds : Entered → Type 0
 EnteredBounds (entered.Open width n) = (1 ≤ n) × (n < 65536)
 EnteredBounds (entered.Shut number) = number < 256

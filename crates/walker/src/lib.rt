@@ -42,14 +42,6 @@ impl Walked {
     }
 }
 
-// Where a path goes from a node: on to an index, by a bit that it tests, or it ends.
-enum Went {
-    Damaged,
-    On(u32, u32),
-    Entry(u32),
-    Nothing,
-}
-
 // What a walk finds before its path: the tree's width and number of nodes; or the number of what refuses, the tree's header (8), then
 // the word (7).
 enum Entered {
@@ -57,6 +49,7 @@ enum Entered {
     Shut(u32),
 }
 
+// By the tree's first word and its number of words.
 fn enter(first: u32, words: usize, word: u32) -> Entered
     ensures { λ r. ⌜ r ≡ enteredOf (headerOf first words) word ⌝ }
     ensures bounds { λ r. ⌜ EnteredBounds r ⌝ }
@@ -72,7 +65,7 @@ fn enter(first: u32, words: usize, word: u32) -> Entered
     }
 }
 
-// The same of a tree that is given as bytes; a length that is no multiple of four is 8 too.
+// By the tree's bytes; a length that is no multiple of four is 8 too.
 fn enter_bytes(tree: &[u8], word: u32) -> Entered
     ensures { λ r. ⌜ r ≡ enteredBytes (now (tree .entry)) word ⌝ }
     ensures bounds { λ r. ⌜ EnteredBounds r ⌝ }
@@ -81,6 +74,14 @@ fn enter_bytes(tree: &[u8], word: u32) -> Entered
         return Entered::Shut(8);
     }
     enter(words::word_in(tree, 0), tree.len() / 4, word)
+}
+
+// Where a path goes from a node: on to an index, by a bit that it tests, or it ends.
+enum Went {
+    Damaged,
+    On(u32, u32),
+    Entry(u32),
+    Nothing,
 }
 
 // One node of a word's path: the tree's word x at index at.
@@ -172,7 +173,7 @@ pub fn walk_bytes(tree: &[u8], word: u32) -> Walked
     }
 }
 
-// Its mask alone. (The library for C has one call of `walk_bytes`, so that it is compiled there without what that call does not need.)
+// Its mask alone. It is a call of its own so that the library for C calls `walk_bytes` once, and compiles it there without the mask.
 pub fn mask_bytes(tree: &[u8], word: u32) -> u32
     ensures { λ r. ⌜ r ≡ maskOrZero (walkBytes (now (tree .entry)) word) ⌝ }
 {
