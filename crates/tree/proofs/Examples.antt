@@ -18,7 +18,7 @@ use Rattle.tree.specs.Tree.{leaf, test, treeOf, below, tree, size, confl
 use Rattle.tree.specs.Written.{headerWord, testWord, leafWord, nodes, written}
 use Rattle.tree.specs.Generate.{fits, judged, generateOf, leftBy, bufferOf, tableWith}
 use Rattle.flat.specs.Nodes.{headerRest, headerOf, testNode, namesNode, nothingNode, nodeOf}
-use Rattle.flat.specs.Walk.{Walk, path, maskOf, enters, walkOf}
+use Rattle.flat.specs.Walk.{Walk, path, maskOf, ones, enters, walkOf}
 use Rattle.tree.specs.Checker.{isStepOne, isStepTwo, checkFrom, checkBelow, acceptsBy, accepts, checkOf}
 
 -- a tree and its first conflict, with every definition open
@@ -121,7 +121,7 @@ three-accepted = refl
 -- ---- walking
 
 unfoldable walked : Outcome Walk → Outcome Walk
-unfolding bit part _and_ headerRest headerOf testNode namesNode nothingNode nodeOf path maskOf enters walkOf
+unfolding bit part _and_ headerRest headerOf testNode namesNode nothingNode nodeOf path maskOf ones howMany enters walkOf
 walked r = r
 
 -- the printed tree: 1- is entry 0, 0- is nothing, each after one test, of bit 1; 4 has a bit at the width
@@ -132,6 +132,19 @@ walk-entry = refl
 pub walk-nothing : walkOf printed-tree 1 ≡ result (record { entry = none; count = 1; mask = 2 })
 unfolding walked
 walk-nothing = refl
+
+-- the worked table's tree: 0x00 is A after the tests of bits 7 to 4, 1 and 0, as many as its mask has ones
+pub walk-worked : walkOf (written 8 (tree (tableOf worked .entries) 8)) 0x00 ≡ result (record { entry = some 0; count = 6; mask = 0xf3 })
+unfolding opened answered walked
+walk-worked = refl
+
+pub worked-ones : ones 0xf3 ≡ 6
+unfolding walked
+worked-ones = refl
+
+pub all-ones : ones 0xffffffff ≡ 32
+unfolding walked
+all-ones = refl
 
 -- a tree that tests bit 1 twice, which no checker accepts: two tests, one bit in the mask
 pub walk-twice : walkOf (0x70020005 ∷ 0x80800005 ∷ 0x80800004 ∷ 0xa0000000 ∷ 0xa0000000 ∷ 0x90000000 ∷ []) 0 ≡ result (record { entry = none; count = 2; mask = 2 })
