@@ -249,3 +249,7 @@ module _ (c : Cell) (i : ℕ) where
       howMany-less (λ j. not (bit (c .fixed) j)) (λ j. not (bit (bitOr (c .fixed) (2 ^ i)) j)) width i h (not-it b)
       (not-if (bit-or (c .fixed) (2 ^ i) i ∙ or-ir _ (bit-pow i)))
       (λ j k. ap not (bit-or (c .fixed) (2 ^ i) j ∙ ap (λ (b : Bool). bit (c .fixed) j or b) (bit-pow-other i j k) ∙ or-false (bit (c .fixed) j)))
+
+  -- the number of unfixed bits falls with each tested bit
+  pub fewer : (width fx : ℕ) → i < width → bit (c .fixed) i ≡ false → fx ≡ bitOr (c .fixed) (2 ^ i) → free width fx < free width (c .fixed)
+  fewer width fx h b e = let z = free-less width h b in rw e (omega arith)

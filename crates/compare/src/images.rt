@@ -11,7 +11,7 @@ use crate::words_in;
 use image::HalfwordAddress;
 use image::Listed;
 use image::Stepped;
-use tree::Generated;
+use maker::Generated;
 ghost use Prim.Native.Nat.{_≤_};
 
 // "if two consecutive bytes 84 and 92 appear .. if four consecutive bytes a9, cd, 0f, 00".
@@ -137,7 +137,7 @@ fn say_list(tree: &[u32]) {
 
 // The words of the tree, or none, which no step and no listing takes.
 fn generated(room: &mut [u32]) -> u32 {
-    if let Generated::Words(count) = tree::generate(&tables::PACKED, room) {
+    if let Generated::Words(count) = maker::generate(&tables::PACKED, room) {
         count
     } else {
         0

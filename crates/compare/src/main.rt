@@ -1,6 +1,8 @@
 // Compares the libraries with another decoder, on every table of document 01's examples and of the
 // public papers, and runs the examples. The output is fixed in `stdout`, so that a difference fails
 // the check.
+use checker::Checked;
+use maker::Generated;
 use operands::Decoding;
 use operands::Encoding;
 use others::Source;
@@ -9,8 +11,6 @@ use says::say_number;
 use says::say_refusal;
 use says::say_word;
 use selection::Selected;
-use tree::Checked;
-use tree::Generated;
 use walker::Walked;
 ghost use Prim.Native.Nat.{_≤_};
 ghost use lib.ListN.{length};
@@ -191,7 +191,7 @@ fn say_agreed(source: Source, table: &[u32], tree: &[u32], count: u32) {
 
 // What the checker says of a tree.
 fn say_check(table: &[u32], tree: &[u32]) {
-    let answer = tree::check(table, tree);
+    let answer = checker::check(table, tree);
     match answer {
         Checked::Yes => say(b" nodes, checked"),
         Checked::No => say(b" nodes, not checked"),
@@ -210,7 +210,7 @@ fn nodes(tree: &[u32]) -> u32 {
 // Generates a table's tree, has it checked, and compares every word.
 fn compare(source: Source, table: &[u32], count: u32) {
     let mut room = [0u32; TREE_ROOM];
-    let answer = tree::generate(table, &mut room);
+    let answer = maker::generate(table, &mut room);
     match answer {
         Generated::Words(n) => {
             let tree = words_in(&room, n);

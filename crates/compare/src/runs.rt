@@ -5,10 +5,10 @@ use crate::says::say_number;
 use crate::says::say_refusal;
 use crate::says::say_word;
 use crate::tables;
+use maker::Generated;
 use operands::Decoding;
 use operands::Encoding;
 use table::Answer;
-use tree::Generated;
 
 // An entry's values, each after a space.
 fn say_values(values: &[u32]) {
@@ -52,7 +52,7 @@ fn say_encoding(table: &[u32], entry: u32, values: &[u32]) {
 
 // What generating says.
 fn say_generating(table: &[u32], room: &mut [u32]) {
-    let answer = tree::generate(table, room);
+    let answer = maker::generate(table, room);
     match answer {
         Generated::Words(count) => {
             say_number(count);

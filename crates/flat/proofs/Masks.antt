@@ -20,9 +20,9 @@ use borrow.Author.Tests.{eq-eqb, ne-eqb, eqb-true, eqb-false, lt-ltb}
 use Rattle.words.specs.Outcome.{result}
 use Rattle.words.specs.Tests.{_or_, isIn, distinct, howMany}
 use Rattle.words.specs.Words.{word, bit}
-use Rattle.words.proofs.Bits.{bit-and, bit-or, bit-none, bit-pow, bit-pow-other}
+use Rattle.words.proofs.Bits.{mask-agree, bit-or, bit-none, bit-pow, bit-pow-other}
 use Rattle.words.proofs.Outcomes.{not-refused}
-use Rattle.words.proofs.Logic.{cases, same, and-i, and-l, and-r, not-t, or-e, or-il, or-ir, howMany-same, howMany-less}
+use Rattle.words.proofs.Logic.{cases, and-i, and-l, and-r, not-t, or-e, or-il, or-ir, howMany-same, howMany-less}
 use Rattle.flat.specs.Nodes.{headerWidth, headerOf, nodeOf}
 use Rattle.flat.specs.Walk.{Ending, arrives, breaks, after, path, maskOf, ones, Walk, ended, enters, walkOf}
 use Rattle.flat.specs.declared.Header.the-variants.{Good}
@@ -104,13 +104,6 @@ unfolding maskOf isIn
 mask-lt width [] h = pow-pos width
 mask-lt width (b ∷ bs) h =
     or-lt width (2 ^ b) (maskOf bs) (pow-lt (h b (or-il _ (eq-eqb b b refl)))) (mask-lt width bs (λ i t. h i (or-ir _ t)))
-
--- words that agree on a mask agree on each of its bits
-mask-agree : (v w m b : ℕ) → bitAnd v m ≡ bitAnd w m → bit m b ≡ true → bit v b ≡ bit w b
-mask-agree v w m b e h = same (λ t. one v w e t) (λ t. one w v (sym e) t)
-  where
-    one : (x y : ℕ) → bitAnd x m ≡ bitAnd y m → bit x b ≡ true → bit y b ≡ true
-    one x y q t = and-l _ (sym (bit-and y m b) ∙ ap (λ (z : ℕ). bit z b) (sym q) ∙ bit-and x m b ∙ and-i t h)
 
 -- ---- paths
 

@@ -20,8 +20,8 @@ use Rattle.table.specs.Ready.{Ready}
 use Rattle.table.proofs.Laws.{length-entries}
 use Rattle.table.proofs.Views.{ready-at}
 use Rattle.flat.specs.Walk.{walkOf, maskOrZero}
-use Rattle.tree.specs.Checker.{accepts, checkOf, said}
-use Rattle.tree.specs.declared.Checked.{Checked}
+use Rattle.checker.specs.Checker.{accepts, checkOf, said}
+use Rattle.checker.specs.declared.Checked.{Checked}
 use Rattle.image.specs.declared.HalfwordAddress.{HalfwordAddress}
 use Rattle.image.specs.declared.Item.{Item}
 use Rattle.image.specs.declared.Listed.{Listed}

@@ -7,7 +7,7 @@ use Rattle.words.specs.Outcome.{Outcome, result, faulty, refused}
 use Rattle.table.specs.Check.{readTable}
 use Rattle.table.specs.Worked.{worked}
 use Rattle.selection.proofs.Examples.{looks}
-use Rattle.tree.proofs.Examples.{verdict}
+use Rattle.checker.proofs.Examples.{verdict}
 use Rattle.image.specs.declared.HalfwordAddress.{HalfwordAddress}
 use Rattle.image.specs.Address.{halfwordAt, wordAt}
 use Rattle.image.specs.Items.{pickedBy, picked, foundWord, nothingWord, cutWord, itemOf, itemAt, itemsFrom, items}

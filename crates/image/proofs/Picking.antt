@@ -17,7 +17,7 @@ use Rattle.selection.proofs.Formula.{names-exactly, nothing-exactly}
 use Rattle.flat.specs.Walk.{maskOf, Walk, walkOf}
 use Rattle.tree.specs.Tree.{named}
 use Rattle.tree.proofs.Demand.{Right}
-use Rattle.tree.proofs.Accepting.{accepted, accepted-right}
+use Rattle.checker.proofs.Accepting.{accepted, accepted-right}
 use Rattle.walker.specs.Walked.{said, Small}
 use Rattle.walker.specs.declared.Walked.{Walked}
 use Rattle.walker.specs.declared.Walked.the-variants as walked

@@ -12,7 +12,7 @@ use Rattle.words.specs.Outcome.{Outcome, result, faulty, refused}
 use Rattle.table.specs.Table.{Entry, Table}
 use Rattle.table.specs.Check.{readTable}
 use Rattle.flat.specs.Walk.{walkOf, maskOrZero}
-use Rattle.tree.specs.Checker.{accepts}
+use Rattle.checker.specs.Checker.{accepts}
 use Rattle.image.specs.declared.HalfwordAddress.{HalfwordAddress}
 use Rattle.image.specs.declared.Item.{Item}
 use Rattle.image.specs.declared.Listed.{Listed}

@@ -9,7 +9,7 @@ use Rattle.words.specs.Outcome.{Outcome, result, faulty, refused}
 use Rattle.table.specs.Table.{Entry, countOf, tableOf}
 use Rattle.table.specs.Check.{readTable}
 use Rattle.table.specs.Ready.{Ready}
-use Rattle.tree.specs.Checker.{accepts}
+use Rattle.checker.specs.Checker.{accepts}
 use Rattle.image.specs.declared.Listed.{Listed}
 use Rattle.image.specs.declared.Refusal.{Refusal}
 use Rattle.image.specs.declared.Refusal.the-variants as refusal

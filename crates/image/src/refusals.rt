@@ -1,15 +1,15 @@
 // What refuses a listing and a step alike: the table's faults, then 15, 16 and 14.
 use crate::Admission;
 use crate::Refusal;
+use checker::Checked;
 use table::Answer;
-use tree::Checked;
 ghost use mathlib.Core.Path.{_≡_};
 ghost use lib.Dec.{eqb};
 ghost use Rattle.words.specs.Tests.{_or_};
 ghost use Rattle.table.specs.Table.{tableOf};
 ghost use Rattle.table.specs.Check.{fine, tableCheck, readTable};
 ghost use Rattle.table.specs.Ready.{Ready};
-ghost use Rattle.tree.specs.Checker.{accepts};
+ghost use Rattle.checker.specs.Checker.{accepts};
 ghost use Rattle.image.specs.Listing.{imageTable, imageGood, admitted};
 ghost use Rattle.image.specs.Parts.{saidRefusal, Admits};
 
@@ -57,7 +57,7 @@ fn tree_right(table: &[u32], tree: &[u32]) -> bool
     requires { ⌜ tableCheck (now table) ≡ fine ⌝ }
     ensures { λ r. ⌜ r ≡ accepts (tableOf (now (table .entry)) .entries) (tableOf (now (table .entry)) .width) (now (tree .entry)) ⌝ }
 {
-    match tree::check(table, tree) {
+    match checker::check(table, tree) {
         Checked::Yes => true,
         Checked::No => false,
         Checked::Refused(_, _) => false,

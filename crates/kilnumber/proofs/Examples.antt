@@ -8,8 +8,8 @@ use Rattle.words.specs.Bytes.{wordOf, wordsOf}
 use Rattle.flat.specs.Nodes.{headerRest, headerOf, testNode, namesNode, nothingNode, nodeOf}
 use Rattle.flat.specs.Walk.{path, maskOf, enters, walkOf, maskOrZero}
 use Rattle.walker.specs.Walked.{walkBytes}
-use Rattle.words.specs.Outcome.{faulty, refused}
-use Rattle.kilnumber.specs.Packed.{packed, packedCheck}
+use Rattle.words.specs.Outcome.{result, faulty, refused}
+use Rattle.kilnumber.specs.Packed.{packed, packedCheck, packedMeasure}
 
 -- what the call answers, with every definition open
 unfoldable answered : List ℕ → ℕ → ℕ
@@ -57,3 +57,13 @@ no-is = refl
 
 fault-is : packedCheck (faulty 2 4) ≡ 0x200000004
 fault-is = refl
+
+-- a size: 27 nodes and 6 tests; over the tree limit (5); an ambiguous word (6)
+size-is : packedMeasure (result (record { nodes = 27; tests = 6 })) ≡ 0x6001b
+size-is = refl
+
+large-is : packedMeasure (refused 5 0 0) ≡ 0x500000000
+large-is = refl
+
+clash-is : packedMeasure (refused 6 0 0x80000001) ≡ 0x680000001
+clash-is = refl

@@ -1,6 +1,6 @@
 -- Document 02, No. 1, sentence by sentence, over the definitions that the calls' contracts cite. Assumes nothing.
 --   `walker::walk` answers `walkOf words w` and `walker::walk_bytes` `walkBytes bytes w`, which `kilnumber_walk` packs; `kilnumber_mask` answers
---   `maskOrZero (walkBytes bytes w)`, `tree::check` `checkOf (readTable ws) words`, `image::step` `stepOf (readTable ws) words image at`.
+--   `maskOrZero (walkBytes bytes w)`, `checker::check` `checkOf (readTable ws) words`, `image::step` `stepOf (readTable ws) words image at`.
 --     tested-bits, refused-zero     the mask
 --     accepted-ones, generated-ones     the count is the number of its ones
 --     alike, accepted-alike, generated-alike, alike-bytes     words that agree on it
@@ -28,9 +28,9 @@ use Rattle.flat.specs.Walk.{ones, maskOf, Walk, walkOf, maskOrZero}
 use Rattle.flat.proofs.Masks.{Tested, walk-tested, walk-alike, path-ones}
 use Rattle.flat.proofs.Reading.{header-width}
 use Rattle.tree.specs.Tree.{named}
-use Rattle.tree.specs.Checker.{accepts, checkOf}
+use Rattle.checker.specs.Checker.{accepts, checkOf}
 use Rattle.tree.specs.Generate.{generateOf, bufferOf}
-use Rattle.tree.proofs.Accepting.{accepted, accepted-right, generated-accepted}
+use Rattle.checker.proofs.Accepting.{accepted, accepted-right, generated-accepted}
 use Rattle.walker.specs.Walked.{walkBytes}
 use Rattle.image.specs.Address.{halfwordAt, wordAt, halfwords}
 use Rattle.image.specs.Items.{itemAt}

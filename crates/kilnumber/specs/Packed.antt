@@ -1,4 +1,4 @@
--- The answers of a walk, of a check and of a listing in 64 bits, for C ('Written form').
+-- The answers of a walk, of a check, of sizing and of a listing in 64 bits, for C ('Written form').
 use Prim.Native.Nat.{ℕ, _+_, _*_, _^_}
 use mathlib.Core.Path.{_≡_}
 use mathlib.Core.List.{List}
@@ -7,6 +7,7 @@ use lib.ListN.{length}
 use Rattle.words.specs.Outcome.{Outcome, result, faulty, refused}
 use Rattle.table.specs.Check.{readTable}
 use Rattle.flat.specs.Walk.{Walk}
+use Rattle.tree.specs.Generate.{Measure}
 use Rattle.image.specs.Listing.{listOf, bufferOf}
 
 -- "entry in 7–0, bit 8 for nothing"
@@ -31,6 +32,13 @@ abbrev pub packedCheck : Outcome Unit → ℕ
 packedCheck (result u) = 0
 packedCheck (faulty number place) = number * 2 ^ 32 + place
 packedCheck (refused number place w) = number * 2 ^ 32 + place
+
+-- a size, which is ours too: the number of nodes in 15–0 and the greatest number of tests in 31–16; or the place or the word (a refusal
+-- has one of them at most) in 31–0; the number in 39–32 (0 if none)
+abbrev pub packedMeasure : Outcome Measure → ℕ
+packedMeasure (result m) = m .nodes + m .tests * 2 ^ 16
+packedMeasure (faulty number place) = number * 2 ^ 32 + place
+packedMeasure (refused number place w) = number * 2 ^ 32 + place + w
 
 -- listing for C answers what the definition says, and the whole buffer is as the definition says
 pub record ListsPacked (ws tree image before after : List ℕ) (r : ℕ) : Type 0 where

@@ -1,7 +1,8 @@
-// The C face: a walk of a tree that is given as bytes, the check of a tree against its table, and the listing of an image; each
-// answer in 64 bits. include/kilnumber.h is its header.
+// The C face: a walk of a tree that is given as bytes, the size of a table's tree, the check of a tree against its table, and the
+// listing of an image; each answer in 64 bits. include/kilnumber.h is its header.
+use checker::Checked;
 use image::Listed;
-use tree::Checked;
+use maker::Measured;
 use walker::Walked;
 ghost use mathlib.Core.Path.{_≡_};
 ghost use Prim.Native.Nat.{ℕ};
@@ -9,8 +10,10 @@ ghost use Rattle.flat.specs.Walk.{maskOrZero};
 ghost use Rattle.walker.specs.Walked.{said, Small, walkBytes};
 ghost use Rattle.image.specs.Listing.{saidList};
 ghost use Rattle.table.specs.Check.{readTable};
-ghost use Rattle.tree.specs.Checker.{checkOf, said as saidCheck};
-ghost use Rattle.kilnumber.specs.Packed.{packed, packedItems, packedCheck, ListsPacked};
+ghost use Rattle.tree.specs.Generate.{measureOf};
+ghost use Rattle.maker.specs.Answers.{saidMeasure};
+ghost use Rattle.checker.specs.Checker.{checkOf, said as saidCheck};
+ghost use Rattle.kilnumber.specs.Packed.{packed, packedItems, packedCheck, packedMeasure, ListsPacked};
 
 // An answer in 64 bits.
 fn pack(answer: Walked) -> u64
@@ -82,6 +85,27 @@ fn pack_check(answer: Checked) -> u64
 pub extern "C" fn kilnumber_check(table: &[u32], tree: &[u32]) -> u64
     ensures { λ r. ⌜ r ≡ packedCheck (checkOf (readTable (now (table .entry))) (now (tree .entry))) ⌝ }
 {
-    let answer = tree::check(table, tree);
+    let answer = checker::check(table, tree);
     pack_check(answer)
+}
+
+// A size in 64 bits.
+fn pack_measure(answer: Measured) -> u64
+    ensures { λ r. ⌜ r ≡ packedMeasure (saidMeasure answer) ⌝ }
+{
+    match answer {
+        Measured::Tree(nodes, tests) => (nodes as u64) + (tests as u64) * 65536,
+        Measured::NoFit => 5 * 4294967296,
+        Measured::Ambiguous(word) => 6 * 4294967296 + (word as u64),
+        Measured::Refused(number, place) => (number as u64) * 4294967296 + (place as u64),
+    }
+}
+
+// What a board's tool calls before it lends memory for a tree: how many nodes, and how many tests at most.
+#[no_mangle]
+pub extern "C" fn kilnumber_measure(table: &[u32]) -> u64
+    ensures { λ r. ⌜ r ≡ packedMeasure (measureOf (readTable (now (table .entry)))) ⌝ }
+{
+    let answer = maker::measure(table);
+    pack_measure(answer)
 }

@@ -2,7 +2,7 @@
 // what a table is, what its tree is and how a line is written.
 use libc::STDIN_FILENO;
 use libc::STDOUT_FILENO;
-use tree::Generated;
+use maker::Generated;
 use words::Cause;
 ghost use Prim.Native.Nat.{_≤_};
 ghost use lib.ListN.{length};
@@ -48,7 +48,7 @@ fn print_tree(words: &[u32], count: u32) {
 // Prints the tree of a table.
 fn print_tree_of(table: &[u32]) {
     let mut words = [0u32; MOST_WORDS];
-    let answer = tree::generate(table, &mut words);
+    let answer = maker::generate(table, &mut words);
     match answer {
         Generated::Words(count) => print_tree(&words, count),
         _ => print_refusal(answer.cause()),

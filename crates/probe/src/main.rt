@@ -1,17 +1,18 @@
 // Answers the requests on standard input, each by one line, until the input ends or a request stops
 // it. The libraries decide what an answer is and how a number is written. The functions here are
 // proved safe; what they print is tested.
+use checker::Checked;
 use image::HalfwordAddress;
 use image::Listed;
 use image::Stepped;
 use libc::STDIN_FILENO;
 use libc::STDOUT_FILENO;
+use maker::Generated;
+use maker::Measured;
 use operands::Decoding;
 use operands::Encoding;
 use selection::Selected;
 use table::Answer;
-use tree::Checked;
-use tree::Generated;
 use walker::Walked;
 use words::Cause;
 ghost use mathlib.Core.Path.{_≡_};
@@ -23,7 +24,7 @@ const MOST_BYTES: usize = 1048576;
 const MOST_WORDS: usize = 262144;
 
 // Requests are numbered from 1.
-const LAST_NUMBER: u32 = 11;
+const LAST_NUMBER: u32 = 12;
 
 const MOST_PARTS: u32 = 8;
 
@@ -244,7 +245,7 @@ fn put_generated(page: &mut [u8], at: usize, answer: Generated) -> usize {
 }
 
 fn put_generate(page: &mut [u8], at: usize, ws: &[u32], parts: Parts, out: &mut [u32]) -> usize {
-    let answer = tree::generate(words_in(ws, parts[0]), out);
+    let answer = maker::generate(words_in(ws, parts[0]), out);
     let end = put_generated(page, at, answer);
     put_buffer(page, end, out)
 }
@@ -286,7 +287,7 @@ fn put_encode(page: &mut [u8], at: usize, ws: &[u32], parts: Parts) -> usize {
 
 // Request 7.
 fn put_check(page: &mut [u8], at: usize, ws: &[u32], parts: Parts) -> usize {
-    let answer = tree::check(words_in(ws, parts[0]), words_in(ws, parts[1]));
+    let answer = checker::check(words_in(ws, parts[0]), words_in(ws, parts[1]));
     let next = put_cause(page, at, answer.cause());
     match answer {
         Checked::Yes => put(page, next, b" yes"),
@@ -362,6 +363,19 @@ fn put_mask(page: &mut [u8], at: usize, bytes: &[u8], ws: &[u32], parts: Parts) 
     put_word(page, next, mask)
 }
 
+// Request 12.
+fn put_measure(page: &mut [u8], at: usize, ws: &[u32], parts: Parts) -> usize {
+    let answer = maker::measure(words_in(ws, parts[0]));
+    let next = put_cause(page, at, answer.cause());
+    match answer {
+        Measured::Tree(nodes, tests) => {
+            let end = put_number(page, next, nodes);
+            put_number(page, end, tests)
+        }
+        _ => next,
+    }
+}
+
 // What follows a request's number on its line.
 fn put_answer(
     page: &mut [u8],
@@ -385,6 +399,7 @@ fn put_answer(
         9 => put_list(page, at, bytes, ws, parts, lent(room, bytes, parts[3])),
         10 => put_walk(page, at, ws, parts),
         11 => put_mask(page, at, bytes, ws, parts),
+        12 => put_measure(page, at, ws, parts),
         _ => at,
     }
 }

@@ -6,7 +6,7 @@
 --     refused-word, refused-exactly, clear-generated     ambiguity, and when a tree is generated
 --     walk-right     the walks of the tree that was written
 use mathlib.Core.Path.{_≡_, refl, sym, ap, _∙_, subst}
-use mathlib.Core.Bool.{true}
+use mathlib.Core.Bool.{Bool, true, false}
 use mathlib.Core.Logic.{_↔_}
 use mathlib.Core.List.{List, [], _++_, append-nil}
 use mathlib.Core.Option.{Option, none, some}
@@ -34,7 +34,7 @@ use Rattle.tree.specs.Written.{written}
 use Rattle.tree.specs.Generate.{fits, judged, generateOf, leftBy, bufferOf}
 use Rattle.flat.specs.Walk.{arrives, path, maskOf, walkOf}
 use Rattle.tree.proofs.Theorem.{tree-right, tree-short, tree-once, tree-conflict, tree-sound, conflict-found}
-use Rattle.tree.proofs.Writing.{length-nodes}
+use Rattle.tree.proofs.Sizes.{length-nodes}
 use Rattle.tree.proofs.Paths.{sound-tree, path-whole, walk-written}
 
 -- a walk by w of these words, a tree of n nodes, is right: it names exactly the selected entry (or nothing), tests no bit twice, and counts truly
@@ -114,25 +114,18 @@ read-sane ws t e = let r = reading-is (tableCheck ws) (tableOf ws) t e in subst 
 
 -- ---- what an answer of generating tells of the tree
 
-not-full : (w : ℕ) → _≡_ {A = Outcome ℕ} (refused 5 0 0) (refused 6 0 w) → ⊥
-not-full w e = let z : _≡_ {A = ℕ} 5 6 = cc in omega arith
-
-module _ (t : Tree) (room : ℕ) where
-  judged-result : (o : Option ℕ) (n : ℕ) → judged t room o ≡ result n → (fits t room ≡ true) × (o ≡ none) × (size t + 1 ≡ n)
+module _ {A : Type 0} where
+  pub judged-result : (b : Bool) (o : Option ℕ) (a x : A) → judged b o a ≡ result x → (b ≡ true) × (o ≡ none) × (a ≡ x)
   unfolding judged
-  judged-result none n e =
-      cases (fits t room)
-      (λ f. (f, refl, let q : result (size t + 1) ≡ result n = rw f at e in cc))
-      (λ f. absurd (not-refused (sym (rw f at e))))
-  judged-result (some w) n e = absurd (cases (fits t room) (λ f. not-refused (sym (rw f at e))) (λ f. not-refused (sym (rw f at e))))
+  judged-result false o a x e = absurd (not-refused (sym e))
+  judged-result true (some w) a x e = absurd (not-refused (sym e))
+  judged-result true none a x e = (refl, refl, cc)
 
-  judged-clash : (o : Option ℕ) (w : ℕ) → judged t room o ≡ refused 6 0 w → o ≡ some w
+  judged-clash : (b : Bool) (o : Option ℕ) (a : A) (w : ℕ) → judged b o a ≡ refused 6 0 w → o ≡ some w
   unfolding judged
-  judged-clash none w e = absurd (cases (fits t room) (λ f. not-refused (rw f at e)) (λ f. not-full w (rw f at e)))
-  judged-clash (some v) w e =
-      cases (fits t room)
-      (λ f. let q : _≡_ {A = Outcome ℕ} (refused 6 0 v) (refused 6 0 w) = rw f at e in let z : v ≡ w = cc in ap some z)
-      (λ f. absurd (not-full w (rw f at e)))
+  judged-clash false o a w e = absurd (let z : _≡_ {A = ℕ} 5 6 = cc in omega arith)
+  judged-clash true (some v) a w e = let z : v ≡ w = cc in ap some z
+  judged-clash true none a w e = absurd (not-refused e)
 
 -- ---- the tree of a table that reads
 
@@ -147,7 +140,7 @@ module _ (ws out : List ℕ) (t : Table) (reads : readTable ws ≡ result t) whe
   sane = read-sane ws t reads
 
   -- the answer is what is judged of the tree
-  answered : generateOf (readTable ws) (length out) ≡ judged grown (length out) (conflict start grown)
+  answered : generateOf (readTable ws) (length out) ≡ judged (fits grown (length out)) (conflict start grown) (size grown + 1)
   unfolding generateOf
   answered = rw reads
 
@@ -166,7 +159,7 @@ module _ (ws out : List ℕ) (t : Table) (reads : readTable ws ≡ result t) whe
 
   module _ (n : ℕ) (generated : generateOf (readTable ws) (length out) ≡ result n) where
     pub judgement : (fits grown (length out) ≡ true) × (conflict start grown ≡ none) × (size grown + 1 ≡ n)
-    judgement = judged-result grown (length out) (conflict start grown) n (sym answered ∙ generated)
+    judgement = judged-result (fits grown (length out)) (conflict start grown) (size grown + 1) n (sym answered ∙ generated)
 
     -- "The tree written is as many words, from the buffer's start, as generating returns"
     pub buffer-is : bufferOf (readTable ws) out ≡ flat ++ drop (length flat) out
@@ -188,7 +181,7 @@ module _ (ws out : List ℕ) (t : Table) (reads : readTable ws ≡ result t) whe
   -- a conflict of the tree is a word of the width that is ambiguous, and there is one where such a word is
   conflict-word : (w : ℕ) → generateOf (readTable ws) (length out) ≡ refused 6 0 w → (w < 2 ^ (t .width)) × (select (t .entries) w ≡ ambiguous)
   conflict-word w e =
-      let r = tree-conflict (t .entries) (t .width) (sane ws out t reads .good) w (judged-clash (tree (t .entries) (t .width)) (length out) _ w (sym (answered ws out t reads) ∙ e)) in
+      let r = tree-conflict (t .entries) (t .width) (sane ws out t reads .good) w (judged-clash _ _ _ w (sym (answered ws out t reads) ∙ e)) in
       (r .1, r .0)
 
   word-conflict : fits (tree (t .entries) (t .width)) (length out) ≡ true → (w : ℕ) → select (t .entries) w ≡ ambiguous

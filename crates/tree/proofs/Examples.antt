@@ -14,12 +14,11 @@ use Rattle.table.proofs.Examples.{opened}
 use Rattle.choice.specs.Rule.{names, nothing, matches, moreSpecific, judge, judgeAt, beatsAt, givesWay}
 use Rattle.cell.specs.Cell.{start, implies, clashes, holds, fails, openCondition, dead, live, sure, openEntry}
 use Rattle.cell.specs.Step.{votesAt, inCondition, inOpen, wantedAt, testedAt, settledAt, stepAt, step, free}
-use Rattle.tree.specs.Tree.{leaf, test, treeOf, below, tree, size, conflict}
+use Rattle.tree.specs.Tree.{leaf, test, treeOf, below, tree, size, depth, conflict}
 use Rattle.tree.specs.Written.{headerWord, testWord, leafWord, nodes, written}
-use Rattle.tree.specs.Generate.{fits, judged, generateOf, leftBy, bufferOf, tableWith}
+use Rattle.tree.specs.Generate.{tableWith, fits, judged, generateOf, leftBy, bufferOf, surveyOf, measureOf}
 use Rattle.flat.specs.Nodes.{headerRest, headerOf, testNode, namesNode, nothingNode, nodeOf}
 use Rattle.flat.specs.Walk.{Walk, path, maskOf, ones, enters, walkOf}
-use Rattle.tree.specs.Checker.{isStepOne, isStepTwo, checkFrom, checkBelow, acceptsBy, accepts, checkOf}
 
 -- a tree and its first conflict, with every definition open
 unfoldable grown : List Entry → ℕ → Option ℕ
@@ -43,8 +42,11 @@ unfolding grown
 two-conflict = refl
 
 -- with 0-0: 7 nodes, no conflict, word 0 selects the third
+abbrev three : List Entry
+three = plain 4 0 ∷ plain 1 0 ∷ plain 5 0 ∷ []
+
 pub three-tree :
-    tree (plain 4 0 ∷ plain 1 0 ∷ plain 5 0 ∷ []) 3
+    tree three 3
     ≡ test 2 (test 0 (leaf (names 2)) (leaf (names 0))) (test 0 (leaf (names 1)) (leaf nothing))
 unfolding grown
 three-tree = refl
@@ -71,12 +73,12 @@ worked-clear = refl
 -- ---- generating, from the words of the table on
 
 -- what generating answers, with every definition open
-unfoldable answered : Outcome ℕ → Outcome ℕ
+unfoldable pub answered : Outcome ℕ → Outcome ℕ
 unfolding opened grown fits judged generateOf leftBy bufferOf headerWord testWord leafWord nodes written
 answered r = r
 
 -- "For the words 10010002 20050210 00000002 00000002 30000001 it prints": the four words; a fifth in the buffer stays
-abbrev printed-tree : List ℕ
+abbrev pub printed-tree : List ℕ
 printed-tree = 0x70020003 ∷ 0x80800003 ∷ 0xa0000000 ∷ 0x90000000 ∷ []
 
 pub printed-answer : generateOf (readTable printed) 5 ≡ result 4
@@ -114,13 +116,46 @@ unfolding answered
 two-short = refl
 
 -- "With 0-0 added: accepted in 8 words"
-pub three-accepted : generateOf (result (tableWith (plain 4 0 ∷ plain 1 0 ∷ plain 5 0 ∷ []) 3)) 8 ≡ result 8
+pub three-accepted : generateOf (result (tableWith three 3)) 8 ≡ result 8
 unfolding answered
 three-accepted = refl
 
+-- ---- sizing
+
+-- with every definition open
+unfoldable sized : ℕ → ℕ
+unfolding answered depth surveyOf measureOf
+sized n = n
+
+pub record Sizings : Type 0 where
+  -- the table that mktree prints, and the worked table: 0x00 is one of the words that take all of its 6 tests
+  pub printed-size : measureOf (readTable printed) ≡ result (record { nodes = 3; tests = 1 })
+  pub worked-size : measureOf (readTable worked) ≡ result (record { nodes = 27; tests = 6 })
+  -- no entries: a leaf alone, and no test
+  pub empty-size : measureOf (readTable (0x10000008 ∷ [])) ≡ result (record { nodes = 1; tests = 0 })
+  -- width 3, 0-- and --0: 6 with word 0, and 5 where 7 words are too few for the 7 nodes; with 0-0 it has a size
+  pub two-size : measureOf (result (tableWith two 3)) ≡ refused 6 0 0
+  pub two-within : surveyOf (result (tableWith two 3)) 7 ≡ refused 5 0 0
+  pub three-size : measureOf (result (tableWith three 3)) ≡ result (record { nodes = 7; tests = 2 })
+  -- a table at fault
+  pub no-size : measureOf (readTable []) ≡ faulty 1 0
+
+pub sizings : Sizings
+unfolding sized
+sizings =
+    record {
+      printed-size = refl;
+      worked-size = refl;
+      empty-size = refl;
+      two-size = refl;
+      two-within = refl;
+      three-size = refl;
+      no-size = refl;
+    }
+
 -- ---- walking
 
-unfoldable walked : Outcome Walk → Outcome Walk
+unfoldable pub walked : Outcome Walk → Outcome Walk
 unfolding bit part _and_ headerRest headerOf testNode namesNode nothingNode nodeOf path maskOf ones howMany enters walkOf
 walked r = r
 
@@ -172,47 +207,3 @@ walk-damaged = refl
 pub walk-spare : walkOf (0x70020003 ∷ 0x80800003 ∷ 0xa0000000 ∷ 0x90000100 ∷ []) 2 ≡ refused 9 3 0
 unfolding walked
 walk-spare = refl
-
--- ---- checking
-
--- what the checker says of these words for the printed table, with every definition open
-unfoldable pub verdict : List ℕ → Outcome Unit
-unfolding answered walked isStepOne isStepTwo checkFrom checkBelow acceptsBy accepts checkOf
-verdict words = checkOf (readTable printed) words
-
-pub record Verdicts : Type 0 where
-  -- the printed tree, any word lent after it, and a tree that tests bit 0 first
-  pub yes : verdict printed-tree ≡ result tt
-  pub lent-after : verdict (0x70020003 ∷ 0x80800003 ∷ 0xa0000000 ∷ 0x90000000 ∷ 7 ∷ []) ≡ result tt
-  pub other-bit-first : verdict (0x70020007 ∷ 0x80000005 ∷ 0x80800004 ∷ 0xa0000000 ∷ 0x90000000 ∷ 0x80800007 ∷ 0xa0000000 ∷ 0x90000000 ∷ []) ≡ result tt
-  -- one tree against each part of the rule
-  pub header : verdict (0x70020003 ∷ 0x80800003 ∷ 0xa0000000 ∷ []) ≡ refused 14 0 0
-  pub widths : verdict (0x70030003 ∷ 0x80800003 ∷ 0xa0000000 ∷ 0x90000000 ∷ []) ≡ refused 14 0 0
-  pub damaged : verdict (0x70020003 ∷ 0x80800003 ∷ 0xa0000000 ∷ 0x90000100 ∷ []) ≡ refused 14 0 0
-  pub sides-apart : verdict (0x70020004 ∷ 0x80800004 ∷ 0xa0000000 ∷ 0xa0000000 ∷ 0x90000000 ∷ []) ≡ refused 14 0 0
-  pub left-over : verdict (0x70020004 ∷ 0x80800003 ∷ 0xa0000000 ∷ 0x90000000 ∷ 0xa0000000 ∷ []) ≡ refused 14 0 0
-  pub tested-twice : verdict (0x70020005 ∷ 0x80800003 ∷ 0xa0000000 ∷ 0x80800005 ∷ 0xa0000000 ∷ 0x90000000 ∷ []) ≡ refused 14 0 0
-  pub only-live : verdict (0x70020001 ∷ 0x90000000 ∷ []) ≡ refused 14 0 0
-  pub still-live : verdict (0x70020003 ∷ 0x80800003 ∷ 0xa0000000 ∷ 0xa0000000 ∷ []) ≡ refused 14 0 0
-
-pub verdicts : Verdicts
-unfolding verdict
-verdicts =
-    record {
-      yes = refl;
-      lent-after = refl;
-      other-bit-first = refl;
-      header = refl;
-      widths = refl;
-      damaged = refl;
-      sides-apart = refl;
-      left-over = refl;
-      tested-twice = refl;
-      only-live = refl;
-      still-live = refl;
-    }
-
--- a table at fault comes before the tree
-pub check-empty : checkOf (readTable []) [] ≡ faulty 1 0
-unfolding verdict
-check-empty = refl

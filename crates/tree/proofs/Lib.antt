@@ -1,11 +1,7 @@
+pub mod Sizes
 pub mod Theorem
-pub mod Below
-pub mod Cases
+pub mod Depth
 pub mod Examples
-pub mod Writing
-pub mod Makers
-pub mod Generating
 pub mod Paths
 pub mod Demand
-pub mod Accepting
-pub mod Checking
+pub mod Sizing

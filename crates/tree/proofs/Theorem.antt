@@ -31,20 +31,18 @@ steps (end a) f g = f a refl
 steps (split i) f g = g i refl
 
 -- the cell's own bits stay in it
-own-zero : (c : Cell) (i : ℕ) → bit (c .fixed) i ≡ false → In c (c .bits) → In (zeroSide c i) (c .bits)
+pub own-zero : (c : Cell) (i : ℕ) → bit (c .fixed) i ≡ false → In c (c .bits) → In (zeroSide c i) (c .bits)
 own-zero c i f h =
     in-zero c i (c .bits) h (isFalse (λ t. clash (and-r _ (sym (bit-and (c .bits) (c .fixed) i) ∙ ap (λ (x : ℕ). bit x i) h ∙ t)) f))
 
-own-one : (c : Cell) (i : ℕ) → bit (c .fixed) i ≡ false → In c (c .bits) → In (oneSide c i) (bitOr (c .bits) (2 ^ i))
-own-one c i f h = in-one c i (bitOr (c .bits) (2 ^ i)) inside (bit-or (c .bits) (2 ^ i) i ∙ or-ir _ (bit-pow i))
-  where
-    none-there : bitAnd (c .fixed) (2 ^ i) ≡ 0
-    none-there = and-pow (c .fixed) i ∙ rw f
+-- and so with an unfixed bit more
+pub own-in : (c : Cell) (i : ℕ) → bit (c .fixed) i ≡ false → In c (c .bits) → In c (bitOr (c .bits) (2 ^ i))
+own-in c i f h =
+    and-comm (bitOr (c .bits) (2 ^ i)) (c .fixed) ∙ and-or (c .fixed) (c .bits) (2 ^ i)
+    ∙ ap₂ bitOr (and-comm (c .fixed) (c .bits) ∙ h) (and-pow (c .fixed) i ∙ rw f) ∙ or-zero-r (c .bits)
 
-    inside : bitAnd (bitOr (c .bits) (2 ^ i)) (c .fixed) ≡ c .bits
-    inside =
-        and-comm (bitOr (c .bits) (2 ^ i)) (c .fixed) ∙ and-or (c .fixed) (c .bits) (2 ^ i)
-        ∙ ap₂ bitOr (and-comm (c .fixed) (c .bits) ∙ h) none-there ∙ or-zero-r (c .bits)
+pub own-one : (c : Cell) (i : ℕ) → bit (c .fixed) i ≡ false → In c (c .bits) → In (oneSide c i) (bitOr (c .bits) (2 ^ i))
+own-one c i f h = in-one c i (bitOr (c .bits) (2 ^ i)) (own-in c i f h) (bit-or (c .bits) (2 ^ i) i ∙ or-ir _ (bit-pow i))
 
 -- ---- the bits that a path tests
 

@@ -1,41 +1,39 @@
--- What generating answers, and what it leaves in the buffer ('The tree of a table', 'Causes, numbers, places').
-use Prim.Native.Nat.{ℕ, _+_, _≤_, _<_}
-use mathlib.Core.Bool.{Bool, cond}
-use mathlib.Core.Path.{_≡_}
+-- What generating and sizing answer, and what generating leaves in the buffer ('The tree of a table', 'Causes, numbers, places'; document
+-- 02, No. 2).
+use Prim.Native.Nat.{ℕ, _+_}
+use mathlib.Core.Bool.{Bool, true, false}
 use mathlib.Core.List.{List, _++_}
 use mathlib.Core.Option.{Option, none, some}
 use lib.Dec.{leb}
 use lib.ListN.{length, drop, replicate}
-use lib.Seq.{sets}
 use Rattle.words.specs.Tests.{_and_}
 use Rattle.words.specs.Outcome.{Outcome, result, faulty, refused}
 use Rattle.table.specs.Table.{Entry, Table}
-use Rattle.table.specs.Check.{readTable}
-use Rattle.cell.specs.Cell.{Cell, start, zeroSide, oneSide}
-use Rattle.tree.specs.Tree.{Tree, test, below, tree, size, conflict}
-use Rattle.tree.specs.Written.{nodes, written}
-use Rattle.tree.specs.declared.First.{First}
-use Rattle.tree.specs.declared.First.the-variants.{Clean, Clash}
-use Rattle.tree.specs.declared.Made.{Made}
-use Rattle.tree.specs.declared.Made.the-variants.{Full, Wrote}
-use Rattle.tree.specs.declared.Generated.{Generated}
-use Rattle.tree.specs.declared.Generated.the-variants as generated
+use Rattle.cell.specs.Cell.{start}
+use Rattle.tree.specs.Tree.{Tree, tree, size, depth, conflict}
+use Rattle.tree.specs.Written.{written}
 
--- ---- the public call
+-- the tree of entries of a width, as the table's
+abbrev pub tableWith : List Entry → ℕ → Table
+tableWith es width = record { width = width; entries = es }
 
 -- "A tree fits when nodes + 1 is at most the buffer's length and at most 16,384"
 unfoldable pub fits : Tree → ℕ → Bool
 fits t room = leb (size t + 1) room and leb (size t + 1) 16384
 
--- "Fit is decided before ambiguity": 5; then 6 with "that of the first conflict cell"; "On success generating returns nodes + 1"
-unfoldable pub judged : Tree → ℕ → Option ℕ → Outcome ℕ
-judged t room none = cond (fits t room) (result (size t + 1)) (refused 5 0 0)
-judged t room (some w) = cond (fits t room) (refused 6 0 w) (refused 5 0 0)
+-- "Fit is decided before ambiguity": 5; then 6 with "that of the first conflict cell"; else the answer
+unfoldable pub judged : {A : Type 0} → Bool → Option ℕ → A → Outcome A
+judged false o a = refused 5 0 0
+judged true (some w) a = refused 6 0 w
+judged true none a = result a
 
+-- ---- generating
+
+-- "On success generating returns nodes + 1"
 unfoldable pub generateOf : Outcome Table → ℕ → Outcome ℕ
 generateOf (faulty n p) room = faulty n p
 generateOf (refused n p x) room = refused n p x
-generateOf (result t) room = let g = tree (t .entries) (t .width) in judged g room (conflict start g)
+generateOf (result t) room = let g = tree (t .entries) (t .width) in judged (fits g room) (conflict start g) (size g + 1)
 
 -- the buffer afterwards: unchanged for 1 to 4; "tree buffer all zero" for 5 and 6; else the tree, and "words after the tree are unchanged"
 unfoldable pub leftBy : Table → Outcome ℕ → List ℕ → List ℕ
@@ -48,50 +46,22 @@ bufferOf (faulty n p) out = out
 bufferOf (refused n p x) out = out
 bufferOf (result t) out = leftBy t (generateOf (result t) (length out)) out
 
--- the paper's number and values for each case of the answer
-abbrev pub said : Generated → Outcome ℕ
-said (generated.Words n) = result n
-said generated.NoFit = refused 5 0 0
-said (generated.Ambiguous w) = refused 6 0 w
-said (generated.Refused number place) = faulty number place
+-- ---- sizing
 
--- generating answers what the definition says, and the whole buffer is as the definition says
-pub record Generates (ws before after : List ℕ) (r : Generated) : Type 0 where
-  pub answer : said r ≡ generateOf (readTable ws) (length before)
-  pub buffer : after ≡ bufferOf (readTable ws) before
+-- "the number of nodes that generating writes and the greatest number of tests on a path to any leaf"
+pub record Measure : Type 0 where
+  pub nodes : ℕ
+  pub tests : ℕ
 
--- ---- the makers
+abbrev pub measured : Tree → Measure
+measured g = record { nodes = size g; tests = depth g }
 
--- the tree of entries of a width, as the table's
-abbrev pub tableWith : List Entry → ℕ → Table
-tableWith es width = record { width = width; entries = es }
+-- sizing within a room of so many words: 5 and 6 "as in generating"
+unfoldable pub surveyOf : Outcome Table → ℕ → Outcome Measure
+surveyOf (faulty n p) room = faulty n p
+surveyOf (refused n p x) room = refused n p x
+surveyOf (result t) room = let g = tree (t .entries) (t .width) in judged (fits g room) (conflict start g) (measured g)
 
--- the same of the tree of entries that are read
-pub record WritesTree (es : List Entry) (width : ℕ) (before after : List ℕ) (r : Generated) : Type 0 where
-  pub answer : said r ≡ generateOf (result (tableWith es width)) (length before)
-  pub buffer : after ≡ bufferOf (result (tableWith es width)) before
-
--- the tree of a cell in which bit b is tested
-abbrev pub splitOf : List Entry → ℕ → Cell → ℕ → Tree
-splitOf es width c b = test b (below es width (zeroSide c b)) (below es width (oneSide c b))
-
--- the first conflict, as the code has it
-abbrev pub firstOf : Option ℕ → First
-firstOf none = Clean
-firstOf (some w) = Clash w
-
-unfoldable pub orFirst : First → First → First
-orFirst Clean g = g
-orFirst (Clash w) g = Clash w
-
--- the tree t of the cell c was written from index `at` on: the next index, the first conflict, and the words
-pub record Written (before after : List ℕ) (t : Tree) (c : Cell) (at limit next : ℕ) (first : First) : Type 0 where
-  pub room : at + size t ≤ limit
-  pub next-is : next ≡ at + size t
-  pub first-is : first ≡ firstOf (conflict c t)
-  pub words : after ≡ sets before at (nodes at t)
-
--- what a maker says of the tree t: written, or it does not fit; words that it wrote before it knew are of the buffer that is cleared
-unfoldable pub Making : Made → List ℕ → List ℕ → Tree → Cell → ℕ → ℕ → Type 0
-Making Full before after t c at limit = limit < at + size t
-Making (Wrote next first) before after t c at limit = Written before after t c at limit next first
+-- "The tree limit applies: over it the answer is 5, then 6 as in generating"
+unfoldable pub measureOf : Outcome Table → Outcome Measure
+measureOf r = surveyOf r 16384

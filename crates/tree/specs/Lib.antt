@@ -1,4 +1,3 @@
 pub mod Tree
 pub mod Written
 pub mod Generate
-pub mod Checker

@@ -9,7 +9,7 @@ use mathlib.Core.Bool.{true, false, not, cond}
 use lib.Bits.{bitAnd, bitOr, and-step, or-step, and-zero-r, or-zero-l, or-shr, and-shr, and-mask, and-le-l}
 use lib.Pow.{shr-shr}
 use borrow.Author.Tests.{eqb-true, eq-eqb}
-use Rattle.words.proofs.Logic.{cases, clash, isTrue, and-l, and-r, and-i, not-t, not-it, exists-at, exists-none}
+use Rattle.words.proofs.Logic.{cases, clash, same, isTrue, and-l, and-r, and-i, not-t, not-it, exists-at, exists-none}
 use lib.Arith.{bin-ind}
 use lib.Dec.{eqb}
 use Rattle.words.specs.Tests.{_and_, _or_, exists}
@@ -116,6 +116,13 @@ bit-and a b i =
     ap (λ (x : ℕ). eqb (x % 2) 1) (and-shr a b i)
     ∙ ap (λ (x : ℕ). eqb x 1) (odd-and (a / 2 ^ i) (b / 2 ^ i))
     ∙ digit-and (a / 2 ^ i % 2) (b / 2 ^ i % 2) (mod-lt _ (zero-lt-suc 1)) (mod-lt _ (zero-lt-suc 1))
+
+-- words that agree on a mask agree on each of its bits
+pub mask-agree : (v w m b : ℕ) → bitAnd v m ≡ bitAnd w m → bit m b ≡ true → bit v b ≡ bit w b
+mask-agree v w m b e h = same (λ t. one v w e t) (λ t. one w v (sym e) t)
+  where
+    one : (x y : ℕ) → bitAnd x m ≡ bitAnd y m → bit x b ≡ true → bit y b ≡ true
+    one x y q t = and-l _ (sym (bit-and y m b) ∙ ap (λ (z : ℕ). bit z b) (sym q) ∙ bit-and x m b ∙ and-i t h)
 
 -- numbers below 2 ^ k are equal when their bits are
 pub bits-same : (k a b : ℕ) → a < 2 ^ k → b < 2 ^ k → ((i : ℕ) → i < k → bit a i ≡ bit b i) → a ≡ b

@@ -1,5 +1,5 @@
 use Rattle.image.proofs.Admitting.{right-yes, right-no, right-faulty}
-use Rattle.tree.specs.Checker.{said}
+use Rattle.checker.specs.Checker.{said}
 use mathlib.Core.Path.{ap}
 use borrow.Author.Needs.{needs}
 use Rattle.image.proofs.refusals.tree_right.Statement.{statement}

@@ -1,0 +1,4 @@
+pub mod Accepting
+pub mod Checking
+pub mod Cases
+pub mod Examples

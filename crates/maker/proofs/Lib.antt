@@ -1,0 +1,5 @@
+pub mod Below
+pub mod Cases
+pub mod Writing
+pub mod Makers
+pub mod Generating
