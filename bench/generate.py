@@ -1,8 +1,10 @@
-"""Times mktree and the same algorithm in C (generate.c) as processes, on the tables of tests/hardest.py and some more.
+"""Times mktree and the same algorithm in C (generate.c) as processes, on the tables of tests/hardest.py and some more; and sizing, a
+request of probe, on the same tables.
 
-Usage: generate.py mktree program directory [compare | instructions]. First the two must print the same bytes for each table; with
-`compare` that is all. From each time that of a table without entries is subtracted: starting a process and printing two lines.
-With `instructions` valgrind counts them instead, which no load of the machine changes.
+Usage: generate.py mktree program probe directory [compare | instructions]. First the two must print the same bytes for each table, and
+the size must be that of the tree, or the same refusal; with `compare` that is all. From each time that of a table without entries is
+subtracted: starting a process and printing a line or two. With `instructions` valgrind counts them instead, which no load of the machine
+changes.
 """
 
 import random
@@ -16,7 +18,8 @@ sys.path.insert(0, str(Path(__file__).resolve().parent.parent / "tests"))
 
 import hardest
 import mktree
-from probe import pack
+import running
+from probe import pack, request_bytes
 from programs import load, take_turns
 from second import examples, tables
 
@@ -42,23 +45,41 @@ def cases():
         yield name, tables.lay_out(plan).words
 
 
+def write_table(directory, name, words):
+    """The file of a table, and beside it that of the request to size it."""
+    file = directory / f"{name}.table"
+    file.write_bytes(pack(words))
+    request(file).write_bytes(request_bytes(("measure", words)))
+    return file
+
+
+def request(file):
+    return file.with_suffix(".request")
+
+
 def write_tables(directory):
     """(name, file) for each table, and the file of the table without entries."""
-    files = []
-    for number, (name, words) in enumerate(cases()):
-        file = directory / f"{number}.table"
-        file.write_bytes(pack(words))
-        files.append((name, file))
-    empty = directory / "empty.table"
-    empty.write_bytes(pack(NO_ENTRIES))
-    return files, empty
+    files = [(name, write_table(directory, number, words)) for number, (name, words) in enumerate(cases())]
+    return files, write_table(directory, "empty", NO_ENTRIES)
 
 
-def compare(program, other, files):
+def sized_as(text):
+    """How probe's line begins for the size of the tree that mktree printed, or for what it refused."""
+    words = text.split("\n")[0].split()
+    if words[0] == "refused":
+        return f"12 {' '.join(words[1:])}\n"
+    return f"12 0 0 00000000 {int(words[1], 16) & 0xFFFF} "
+
+
+def compare(program, other, probe, files):
     for name, file in files:
         data = file.read_bytes()
-        mktree.stop_at_difference(name, data, mktree.text_of(program, data), mktree.text_of(other, data))
-    print(f"generate: the same lines for {len(files)} tables")
+        text = mktree.text_of(program, data)
+        mktree.stop_at_difference(name, data, text, mktree.text_of(other, data))
+        size = running.output_of(probe, request(file).read_bytes()).decode()
+        if not size.startswith(sized_as(text)):
+            sys.exit(f"{name}: probe sizes it {size!r}, and mktree's lines begin {text[:40]!r}")
+    print(f"generate: the same lines for {len(files)} tables, and the same sizes")
 
 
 def ratio_text(proved, in_c, starts):
@@ -71,17 +92,21 @@ def ratio_text(proved, in_c, starts):
     return ratio, f"ratio {ratio:5.2f}; of turns {turns[0]:5.2f} {median(turns):5.2f} {turns[-1]:5.2f}"
 
 
-def measure(program, other, files, empty):
+def measure(program, other, probe, files, empty):
     print(f"load before: {load()}; {REPEATS} turns; ms by the clock: best, median, worst; ratios are of processor time, less the start")
-    runs = [(one, file) for _, file in [("", empty), *files] for one in (program, other)]
+    runs = [run for _, file in [("", empty), *files] for run in ((program, file), (other, file), (probe, request(file)))]
     times = take_turns(runs, REPEATS)
-    starts, worst = times[:2], 0
-    print(f"{'no entries':36} mktree {starts[0].text()}   C {starts[1].text()}")
-    for (name, _), proved, in_c in zip(files, times[2::2], times[3::2], strict=True):
+    starts, worst, sizing = times[:3], 0, []
+    print(f"{'no entries':36} mktree {starts[0].text()}   C {starts[1].text()}   sized {starts[2].text()}")
+    for (name, _), proved, in_c, sized in zip(files, times[3::3], times[4::3], times[5::3], strict=True):
         ratio, said = ratio_text(proved, in_c, starts)
         worst = max(worst, ratio or 0)
         print(f"{name:36} mktree {proved.text()}   C {in_c.text()}   {said}")
-    print(f"largest ratio, mktree to C: {worst:.2f}; load after: {load()}")
+        sizing.append((name, sized, *ratio_text(sized, proved, (starts[2], starts[0]))))
+    print(f"largest ratio, mktree to C: {worst:.2f}")
+    for name, sized, _, said in sizing:
+        print(f"{name:36} sized  {sized.text()}   to mktree: {said}")
+    print(f"largest ratio, sizing to mktree: {max(ratio or 0 for _, _, ratio, _ in sizing):.2f}; load after: {load()}")
 
 
 def instructions_of(program, file):
@@ -91,23 +116,28 @@ def instructions_of(program, file):
     return int(re.search(r"I +refs: +([0-9,]+)", done.stderr).group(1).replace(",", ""))
 
 
-def count_instructions(program, other, files, empty):
-    starts = [instructions_of(one, empty) for one in (program, other)]
-    print(f"millions of instructions, less {starts[0] / 1e6:.2f} and {starts[1] / 1e6:.2f} for a table without entries")
+def counts_of(program, other, probe, file):
+    return [instructions_of(program, file), instructions_of(other, file), instructions_of(probe, request(file))]
+
+
+def count_instructions(program, other, probe, files, empty):
+    starts = counts_of(program, other, probe, empty)
+    print(f"millions of instructions, less {', '.join(f'{start / 1e6:.2f}' for start in starts)} for a table without entries")
     for name, file in files:
-        proved, in_c = (instructions_of(one, file) - start for one, start in zip((program, other), starts))
-        print(f"{name:36} mktree {proved / 1e6:9.3f}   C {in_c / 1e6:9.3f}   ratio {proved / in_c:5.2f}", flush=True)
+        proved, in_c, sized = (count - start for count, start in zip(counts_of(program, other, probe, file), starts))
+        print(f"{name:36} mktree {proved / 1e6:9.3f}   C {in_c / 1e6:9.3f}   ratio {proved / in_c:5.2f}"
+              f"   sized {sized / 1e6:9.3f}   to mktree {sized / proved:5.2f}", flush=True)
 
 
 def main():
-    program, other, directory = sys.argv[1], sys.argv[2], Path(sys.argv[3])
+    program, other, probe, directory = *sys.argv[1:4], Path(sys.argv[4])
     directory.mkdir(parents=True, exist_ok=True)
     files, empty = write_tables(directory)
-    compare(program, other, files)
-    if sys.argv[4:] == ["instructions"]:
-        count_instructions(program, other, files, empty)
-    elif sys.argv[4:] != ["compare"]:
-        measure(program, other, files, empty)
+    compare(program, other, probe, files)
+    if sys.argv[5:] == ["instructions"]:
+        count_instructions(program, other, probe, files, empty)
+    elif sys.argv[5:] != ["compare"]:
+        measure(program, other, probe, files, empty)
 
 
 if __name__ == "__main__":

@@ -2,14 +2,14 @@
 use mathlib.Core.Path.{_≡_, refl, sym, ap, ap₂, _∙_}
 use mathlib.Core.List.{List}
 use mathlib.Core.Bool.{Bool, true, false, not, cond}
-use Prim.Native.Nat.{ℕ, zero, suc, _%_, _^_, _≤_, _<_, min}
+use Prim.Native.Nat.{ℕ, zero, suc, _*_, _%_, _^_, _≤_, _<_, min}
 use native.Mathlib.Omega.{arith}
 use lib.Bits.{bitOr}
 use lib.Dec.{eqb}
 use borrow.Author.Tests.{eq-eqb, ne-eqb}
 use Rattle.words.specs.Tests.{allOf, _and_, exists, best}
-use Rattle.words.specs.Words.{bit, run}
-use Rattle.words.proofs.Parts.{or-run}
+use Rattle.words.specs.Words.{bit}
+use Rattle.words.proofs.Parts.{one-shl}
 use Rattle.words.proofs.Logic.{cases, exists-same, howMany-same}
 use Rattle.table.specs.Lawful.{goodTable}
 use Rattle.table.specs.Ready.{Ready}
@@ -170,6 +170,6 @@ module _ (ws places : List ℕ) (width n : ℕ) (ready : Ready ws places width n
     pub test-ready : (i : ℕ) → stepAt (entryPlaced ws places) (min n 256) (min width 32) c ≡ split i → (i < width) × (bit (c .fixed) i ≡ false)
     test-ready i e = split-right _ width ready-good c i (sym step-ready ∙ e)
 
-  -- a tested bit, set in a word of the cell: r is what words::run gives for it
-  pub bit-set : (x : ℕ) {b r : ℕ} → b < width → r ≡ run b 1 % 2 ^ 32 → bitOr x r ≡ bitOr x (2 ^ b)
-  bit-set x {b} {r} h e = or-run x b r (omega (arith, ready-wide ws places width n ready)) e
+  -- a tested bit, as the code shifts it, set in a word of the cell
+  pub bit-set : (x b : ℕ) → b < width → bitOr x ((1 * 2 ^ b) % 2 ^ 32) ≡ bitOr x (2 ^ b)
+  bit-set x b h = ap (bitOr x) (one-shl b (omega (arith, ready-wide ws places width n ready)))

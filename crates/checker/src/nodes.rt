@@ -117,7 +117,7 @@ fn check_node(
     if is_fixed(fixed, b) {
         return Ended::No;
     }
-    let tested = words::run(b as u32, 1);
+    let tested: u32 = 1 << b;
     let more = fixed | tested;
     let zero = check_tree(table, places, count, tree, width, nodes, more, bits, at + 1);
     match zero {

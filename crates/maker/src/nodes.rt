@@ -119,7 +119,7 @@ fn make_node(
     requires { ⌜ (limit ≤ 16384) × (at < limit) × (b < width) × (bit fixed b ≡ false) × Ready (now table) (now places) width count ⌝ }
     ensures { λ r. ⌜ Making r (now (out .entry)) (now (out .exit)) (splitOf (entriesAt (now (table .entry)) count 1) width (cellOf fixed bits) b) (cellOf fixed bits) at limit ⌝ }
 {
-    let tested = words::run(b as u32, 1);
+    let tested: u32 = 1 << b;
     let more = fixed | tested;
     let zero = make_tree(table, places, count, width, more, bits, out, at + 1, limit);
     match zero {

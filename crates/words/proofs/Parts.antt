@@ -4,7 +4,7 @@ use mathlib.Core.Bool.{true}
 use Prim.Native.Nat.{ℕ, zero, _+_, _-_, _*_, _/_, _%_, _^_, _≤_, _<_}
 use native.Mathlib.Nat.{one-mul, add-mul, mul-assoc, mul-right-comm, mod-lt, mod-eq-of-lt, div-eq-of-lt, zero-mod, pow-zero, div-one, mul-mod-left, mul-add-mod-self-right, le-trans}
 use native.Mathlib.Omega.{arith}
-use lib.Bits.{bitAnd, bitOr, and-mask}
+use lib.Bits.{bitAnd, and-mask}
 use lib.Dec.{lit<, eqb, ltb}
 use lib.Pow.{shl-exact, shl-lt, pow-add, pow-mono, pow-pos, shr-le, ones-lt, ones-split}
 use borrow.Author.Tests.{lt-ltb}
@@ -108,8 +108,3 @@ fits-some w width h = ap (ltb w) (one-shl width h)
 pub bit-shr : (w i : ℕ) → eqb (bitAnd (w / 2 ^ i) 1) 1 ≡ bit w i
 unfolding bit
 bit-shr w i = ap (λ (x : ℕ). eqb x 1) (and-mask (w / 2 ^ i) 1)
-
--- one bit, set in a word
-pub or-run : (w b r : ℕ) → b < 32 → r ≡ run b 1 % 2 ^ 32 → bitOr w r ≡ bitOr w (2 ^ b)
-unfolding run
-or-run w b r h e = ap (bitOr w) (e ∙ run-whole b 1 (omega arith) ∙ one-mul (2 ^ b))

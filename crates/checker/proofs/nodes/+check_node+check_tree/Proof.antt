@@ -24,7 +24,6 @@ use Rattle.checker.proofs.nodes.is_fixed.Reads as is-fixed-reads
 use Rattle.checker.proofs.nodes.is_named.Reads as is-named-reads
 use Rattle.checker.proofs.nodes.is_nothing.Reads as is-nothing-reads
 use Rattle.checker.proofs.nodes.leaf_end.Reads as leaf-end-reads
-use Rattle.words.proofs.run.Reads as run-reads
 use Rattle.words.proofs.word_at.Reads as word-at-reads
 use Rattle.checker.proofs.nodes.+check_node+check_tree.{statement}
 use Rattle.checker.proofs.nodes.+check_node+check_tree.Tie.{close}
@@ -52,7 +51,7 @@ check-tree-below t =
     and 3 check-tree-kinds.ps (falls 3 check-tree-kinds.ps _<_ μ-check-tree t) check-tree.Pre
 
 abbrev check-node-claims : ℕ → check-node-lts.Claims
-check-node-claims t = (is-fixed-reads.Asked, is-fixed-reads.Learnt, run-reads.Asked, run-reads.Learnt, check-tree-below t, check-tree.Post)
+check-node-claims t = (is-fixed-reads.Asked, is-fixed-reads.Learnt, check-tree-below t, check-tree.Post)
 
 abbrev check-tree-claims : ℕ → check-tree-lts.Claims
 check-tree-claims t = (word-at-reads.Asked, word-at-reads.Learnt, node-of-reads.Asked, node-of-reads.Learnt, settle-reads.Asked, settle-reads.Learnt, is-named-reads.Asked, is-named-reads.Learnt, leaf-end-reads.Asked, leaf-end-reads.Learnt, is-nothing-reads.Asked, is-nothing-reads.Learnt, check-node-below t, check-node.Post)
@@ -63,19 +62,19 @@ check-node-is-fixed-requires t c κs = let s = c .before .before in omega (arith
 check-node-returns : (t : ℕ) → check-node-lts.Need-returns (check-node-claims t) (check-node-at t) check-node.Post
 check-node-returns t c = sides-fixed _ _ _ _ _ _ _ _ (sym (c .before .is-fixed .ensures) ∙ c .if1 .taken)
 
-check-node-run-requires : (t : ℕ) → check-node-lts.Need-run-requires (check-node-claims t) (check-node-at t) check-node.Post
-check-node-run-requires t c κs = search needs
+check-node-shl-tested : (t : ℕ) → check-node-lts.Need-shl-tested (check-node-claims t) (check-node-at t) check-node.Post
+check-node-shl-tested t c =
+    let s = c .before .before .before .before in
+    omega (arith, s .pre .1 .3, ready-wide _ _ _ _ (s .pre .1 .4))
 
 check-node-add-check-tree : (t : ℕ) → check-node-lts.Need-add-check-tree (check-node-claims t) (check-node-at t) check-node.Post
 check-node-add-check-tree t c = search needs
 
 check-node-check-tree-requires : (t : ℕ) → check-node-lts.Need-check-tree-requires (check-node-claims t) (check-node-at t) check-node.Post
 check-node-check-tree-requires t c κs =
-    let w = c in
-    let e = w .before in
-    let f = e .before in
+    let f = c .before in
     let s = f .before .before .before in
-    let z = fewer (cell (s .args .fixed) (s .args .bits)) (s .args .b) (s .args .width) _ (s .pre .1 .3) (sym (f .is-fixed .ensures) ∙ e .if1 .left) (bit-set _ _ _ _ (s .pre .1 .4) (s .args .fixed) (s .pre .1 .3) (w .run .ensures)) in
+    let z = fewer (cell (s .args .fixed) (s .args .bits)) (s .args .b) (s .args .width) _ (s .pre .1 .3) (sym (f .is-fixed .ensures) ∙ c .if1 .left) (bit-set _ _ _ _ (s .pre .1 .4) (s .args .fixed) (s .args .b) (s .pre .1 .3)) in
     (omega (arith, s .pre .0), (omega (arith, s .pre .1 .0, s .pre .1 .1), s .pre .1 .2, s .pre .1 .4))
 
 check-node-enum-told : (t : ℕ) → check-node-lts.Need-enum-told (check-node-claims t) (check-node-at t) check-node.Post
@@ -88,39 +87,35 @@ check-node-returns-2 : (t : ℕ) → check-node-lts.Need-returns-2 (check-node-c
 check-node-returns-2 t c =
     let k = c .before .before in
     let m = k .before .before in
-    let w = m .before in
-    let e = w .before in
+    let e = m .before in
     let f = e .before in
     let s = f .before .before .before in
-    zero-elsewhere _ _ _ _ _ _ _ _ (sym (f .is-fixed .ensures) ∙ e .if1 .left) _ (bit-set _ _ _ _ (s .pre .1 .4) (s .args .fixed) (s .pre .1 .3) (w .run .ensures)) _ (m .check-tree .ensures) _ (k .zero .given .1) (c .if2 .taken)
+    zero-elsewhere _ _ _ _ _ _ _ _ (sym (f .is-fixed .ensures) ∙ e .if1 .left) _ (bit-set _ _ _ _ (s .pre .1 .4) (s .args .fixed) (s .args .b) (s .pre .1 .3)) _ (m .check-tree .ensures) _ (k .zero .given .1) (c .if2 .taken)
 
 check-node-check-tree-requires-2 : (t : ℕ) → check-node-lts.Need-check-tree-requires-2 (check-node-claims t) (check-node-at t) check-node.Post
 check-node-check-tree-requires-2 t c κs =
-    let w = c .before .before .before .before .before in
-    let e = w .before in
+    let e = c .before .before .before .before .before in
     let f = e .before in
     let s = f .before .before .before in
-    let z = fewer (cell (s .args .fixed) (s .args .bits)) (s .args .b) (s .args .width) _ (s .pre .1 .3) (sym (f .is-fixed .ensures) ∙ e .if1 .left) (bit-set _ _ _ _ (s .pre .1 .4) (s .args .fixed) (s .pre .1 .3) (w .run .ensures)) in
+    let z = fewer (cell (s .args .fixed) (s .args .bits)) (s .args .b) (s .args .width) _ (s .pre .1 .3) (sym (f .is-fixed .ensures) ∙ e .if1 .left) (bit-set _ _ _ _ (s .pre .1 .4) (s .args .fixed) (s .args .b) (s .pre .1 .3)) in
     (omega (arith, s .pre .0), (s .pre .1 .1, s .pre .1 .2, s .pre .1 .4))
 
 check-node-returns-3 : (t : ℕ) → check-node-lts.Need-returns-3 (check-node-claims t) (check-node-at t) check-node.Post
 check-node-returns-3 t c =
     let m = c .before .before in
-    let w = m .before in
-    let e = w .before in
+    let e = m .before in
     let f = e .before in
     let s = f .before .before .before in
-    zero-no _ _ _ _ _ _ _ _ (sym (f .is-fixed .ensures) ∙ e .if1 .left) _ (bit-set _ _ _ _ (s .pre .1 .4) (s .args .fixed) (s .pre .1 .3) (w .run .ensures)) _ (m .check-tree .ensures) (c .enum-told .given .1)
+    zero-no _ _ _ _ _ _ _ _ (sym (f .is-fixed .ensures) ∙ e .if1 .left) _ (bit-set _ _ _ _ (s .pre .1 .4) (s .args .fixed) (s .args .b) (s .pre .1 .3)) _ (m .check-tree .ensures) (c .enum-told .given .1)
 
 check-node-returns-4 : (t : ℕ) → check-node-lts.Need-returns-4 (check-node-claims t) (check-node-at t) check-node.Post
 check-node-returns-4 t c =
     let k = c .before .before .before in
     let m = k .before .before in
-    let w = m .before in
-    let e = w .before in
+    let e = m .before in
     let f = e .before in
     let s = f .before .before .before in
-    one-side _ _ _ _ _ _ _ _ (sym (f .is-fixed .ensures) ∙ e .if1 .left) _ (bit-set _ _ _ _ (s .pre .1 .4) (s .args .fixed) (s .pre .1 .3) (w .run .ensures)) _ (m .check-tree .ensures) _ _ _ (k .zero .given .1) (c .before .if2 .left) (bit-set _ _ _ _ (s .pre .1 .4) (s .args .bits) (s .pre .1 .3) (w .run .ensures)) (c .check-tree2 .ensures)
+    one-side _ _ _ _ _ _ _ _ (sym (f .is-fixed .ensures) ∙ e .if1 .left) _ (bit-set _ _ _ _ (s .pre .1 .4) (s .args .fixed) (s .args .b) (s .pre .1 .3)) _ (m .check-tree .ensures) _ _ _ (k .zero .given .1) (c .before .if2 .left) (bit-set _ _ _ _ (s .pre .1 .4) (s .args .bits) (s .args .b) (s .pre .1 .3)) (c .check-tree2 .ensures)
 
 check-tree-word-at-requires : (t : ℕ) → check-tree-lts.Need-word-at-requires (check-tree-claims t) (check-tree-at t) check-tree.Post
 check-tree-word-at-requires t c κs = search needs
@@ -197,7 +192,7 @@ pub +check-node+check-tree-spec : {M : Type 1} → statement M
     check-node.Post
     (check-node-is-fixed-requires t)
     (check-node-returns t)
-    (check-node-run-requires t)
+    (check-node-shl-tested t)
     (check-node-add-check-tree t)
     (check-node-check-tree-requires t)
     (check-node-enum-told t)

@@ -27,7 +27,6 @@ use Rattle.maker.proofs.nodes.nothing_word.Reads as nothing-word-reads
 use Rattle.maker.proofs.nodes.or_first.Reads as or-first-reads
 use Rattle.maker.proofs.nodes.put.Reads as put-reads
 use Rattle.maker.proofs.nodes.test_word.Reads as test-word-reads
-use Rattle.words.proofs.run.Reads as run-reads
 use Rattle.maker.proofs.nodes.+make_node+make_tree.{statement}
 use Rattle.maker.proofs.nodes.+make_node+make_tree.Tie.{close}
 
@@ -52,22 +51,23 @@ make-tree-below t =
     and 3 make-tree-kinds.ps (falls 3 make-tree-kinds.ps _<_ μ-make-tree t) make-tree.Pre
 
 abbrev make-node-claims : ℕ → make-node-lts.Claims
-make-node-claims t = (run-reads.Asked, run-reads.Learnt, make-tree-below t, make-tree.Post, test-word-reads.Asked, test-word-reads.Learnt, put-reads.Asked, put-reads.Learnt, or-first-reads.Asked, or-first-reads.Learnt, deeper-reads.Asked, deeper-reads.Learnt)
+make-node-claims t = (make-tree-below t, make-tree.Post, test-word-reads.Asked, test-word-reads.Learnt, put-reads.Asked, put-reads.Learnt, or-first-reads.Asked, or-first-reads.Learnt, deeper-reads.Asked, deeper-reads.Learnt)
 
 abbrev make-tree-claims : ℕ → make-tree-lts.Claims
 make-tree-claims t = (decide-reads.Asked, decide-reads.Learnt, names-word-reads.Asked, names-word-reads.Learnt, make-leaf-reads.Asked, make-leaf-reads.Learnt, nothing-word-reads.Asked, nothing-word-reads.Learnt, make-node-below t, make-node.Post)
 
-make-node-run-requires : (t : ℕ) → make-node-lts.Need-run-requires (make-node-claims t) (make-node-at t) make-node.Post
-make-node-run-requires t c κs = search needs
+make-node-shl-tested : (t : ℕ) → make-node-lts.Need-shl-tested (make-node-claims t) (make-node-at t) make-node.Post
+make-node-shl-tested t c =
+    let s = c .before .before in
+    omega (arith, s .pre .1 .2, ready-wide _ _ _ _ (s .pre .1 .4))
 
 make-node-add-make-tree : (t : ℕ) → make-node-lts.Need-add-make-tree (make-node-claims t) (make-node-at t) make-node.Post
 make-node-add-make-tree t c = search needs
 
 make-node-make-tree-requires : (t : ℕ) → make-node-lts.Need-make-tree-requires (make-node-claims t) (make-node-at t) make-node.Post
 make-node-make-tree-requires t c κs =
-    let w = c .before in
-    let s = w .before .before .before in
-    (omega (arith, s .pre .0, fewer (cell (s .args .fixed) (s .args .bits)) (s .args .b) (s .args .width) _ (s .pre .1 .2) (s .pre .1 .3) (bit-set _ _ _ _ (s .pre .1 .4) (s .args .fixed) (s .pre .1 .2) (w .run .ensures))), (s .pre .1 .0, s .pre .1 .4))
+    let s = c .before .before .before in
+    (omega (arith, s .pre .0, fewer (cell (s .args .fixed) (s .args .bits)) (s .args .b) (s .args .width) _ (s .pre .1 .2) (s .pre .1 .3) (bit-set _ _ _ _ (s .pre .1 .4) (s .args .fixed) (s .args .b) (s .pre .1 .2))), (s .pre .1 .0, s .pre .1 .4))
 
 make-node-enum-told : (t : ℕ) → make-node-lts.Need-enum-told (make-node-claims t) (make-node-at t) make-node.Post
 make-node-enum-told t c = search needs
@@ -79,7 +79,7 @@ make-node-test-word-requires : (t : ℕ) → make-node-lts.Need-test-word-requir
 make-node-test-word-requires t c κs =
     let z = c .before .before in
     let m = z .before .before .before .before in
-    let s = m .before .before .before .before .before in
+    let s = m .before .before .before .before in
     let n = m .make-tree .ensures .wrote _ _ _ (z .zero .given .1) .within in
     (omega (arith, s .pre .1 .2, ready-wide _ _ _ _ (s .pre .1 .4)), omega (arith, s .pre .1 .0))
 
@@ -88,9 +88,8 @@ make-node-put-requires t c κs = search needs
 
 make-node-make-tree-requires-2 : (t : ℕ) → make-node-lts.Need-make-tree-requires-2 (make-node-claims t) (make-node-at t) make-node.Post
 make-node-make-tree-requires-2 t c κs =
-    let w = c .before .before .before .before .before .before .before .before .before .before .before .before .before in
-    let s = w .before .before .before in
-    (omega (arith, s .pre .0, fewer (cell (s .args .fixed) (s .args .bits)) (s .args .b) (s .args .width) _ (s .pre .1 .2) (s .pre .1 .3) (bit-set _ _ _ _ (s .pre .1 .4) (s .args .fixed) (s .pre .1 .2) (w .run .ensures))), (s .pre .1 .0, s .pre .1 .4))
+    let s = c .before .before .before .before .before .before .before .before .before .before .before .before .before .before .before in
+    (omega (arith, s .pre .0, fewer (cell (s .args .fixed) (s .args .bits)) (s .args .b) (s .args .width) _ (s .pre .1 .2) (s .pre .1 .3) (bit-set _ _ _ _ (s .pre .1 .4) (s .args .fixed) (s .args .b) (s .pre .1 .2))), (s .pre .1 .0, s .pre .1 .4))
 
 make-node-enum-told-2 : (t : ℕ) → make-node-lts.Need-enum-told-2 (make-node-claims t) (make-node-at t) make-node.Post
 make-node-enum-told-2 t c = search needs
@@ -107,7 +106,7 @@ make-node-deeper-requires t c κs =
     let m2 = o .before .before .before .before in
     let z = m2 .before .before .before .before .before .before .before .before in
     let m = z .before .before .before .before in
-    let s = m .before .before .before .before .before in
+    let s = m .before .before .before .before in
     let x = m .make-tree .ensures .wrote _ _ _ (z .zero .given .1) .within in
     let y = m2 .make-tree2 .ensures .wrote _ _ _ (o .one .given .1) .within in
     (omega (arith, s .pre .1 .0), omega (arith, s .pre .1 .0))
@@ -118,9 +117,8 @@ make-node-same-length t c = search needs
 make-node-returns : (t : ℕ) → make-node-lts.Need-returns (make-node-claims t) (make-node-at t) make-node.Post
 make-node-returns t c =
     let m = c .before .before .before .before in
-    let w = m .before .before in
-    let s = w .before .before .before in
-    zero-is-full _ _ _ _ _ (bit-set _ _ _ _ (s .pre .1 .4) (s .args .fixed) (s .pre .1 .2) (w .run .ensures)) (m .make-tree .ensures) (c .enum-told .given .1)
+    let s = m .before .before .before .before in
+    zero-is-full _ _ _ _ _ (bit-set _ _ _ _ (s .pre .1 .4) (s .args .fixed) (s .args .b) (s .pre .1 .2)) (m .make-tree .ensures) (c .enum-told .given .1)
 
 make-node-same-length-2 : (t : ℕ) → make-node-lts.Need-same-length-2 (make-node-claims t) (make-node-at t) make-node.Post
 make-node-same-length-2 t c = search needs
@@ -132,9 +130,8 @@ make-node-returns-2 t c =
     let x = p .before in
     let z = x .before .before .before in
     let m = z .before .before .before .before in
-    let w = m .before .before in
-    let s = w .before .before .before in
-    one-is-full _ _ _ _ _ (bit-set _ _ _ _ (s .pre .1 .4) (s .args .fixed) (s .pre .1 .2) (w .run .ensures)) (m .make-tree .ensures) (bit-set _ _ _ _ (s .pre .1 .4) (s .args .bits) (s .pre .1 .2) (w .run .ensures)) (x .test-word .ensures) (z .zero .given .1) (p .put .ensures) (m2 .make-tree2 .ensures) (c .enum-told2 .given .1)
+    let s = m .before .before .before .before in
+    one-is-full _ _ _ _ _ (bit-set _ _ _ _ (s .pre .1 .4) (s .args .fixed) (s .args .b) (s .pre .1 .2)) (m .make-tree .ensures) (bit-set _ _ _ _ (s .pre .1 .4) (s .args .bits) (s .args .b) (s .pre .1 .2)) (x .test-word .ensures) (z .zero .given .1) (p .put .ensures) (m2 .make-tree2 .ensures) (c .enum-told2 .given .1)
 
 make-node-same-length-3 : (t : ℕ) → make-node-lts.Need-same-length-3 (make-node-claims t) (make-node-at t) make-node.Post
 make-node-same-length-3 t c = search needs
@@ -148,9 +145,8 @@ make-node-returns-3 t c =
     let x = p .before in
     let z = x .before .before .before in
     let m = z .before .before .before .before in
-    let w = m .before .before in
-    let s = w .before .before .before in
-    both-written _ _ _ _ _ (bit-set _ _ _ _ (s .pre .1 .4) (s .args .fixed) (s .pre .1 .2) (w .run .ensures)) (m .make-tree .ensures) (bit-set _ _ _ _ (s .pre .1 .4) (s .args .bits) (s .pre .1 .2) (w .run .ensures)) (x .test-word .ensures) (z .zero .given .1) (p .put .ensures) (m2 .make-tree2 .ensures) (o .one .given .1) (f .or-first .ensures) (c .deeper .ensures)
+    let s = m .before .before .before .before in
+    both-written _ _ _ _ _ (bit-set _ _ _ _ (s .pre .1 .4) (s .args .fixed) (s .args .b) (s .pre .1 .2)) (m .make-tree .ensures) (bit-set _ _ _ _ (s .pre .1 .4) (s .args .bits) (s .args .b) (s .pre .1 .2)) (x .test-word .ensures) (z .zero .given .1) (p .put .ensures) (m2 .make-tree2 .ensures) (o .one .given .1) (f .or-first .ensures) (c .deeper .ensures)
 
 make-tree-returns : (t : ℕ) → make-tree-lts.Need-returns (make-tree-claims t) (make-tree-at t) make-tree.Post
 make-tree-returns t c = no-room (c .if1 .taken)
@@ -254,7 +250,7 @@ pub +make-node+make-tree-spec : {M : Type 1} → statement M
 +make-node+make-tree-spec = close μ-make-node μ-make-tree (λ t. make-node-lts.spec (make-node-claims t)
     (make-node-at t)
     make-node.Post
-    (make-node-run-requires t)
+    (make-node-shl-tested t)
     (make-node-add-make-tree t)
     (make-node-make-tree-requires t)
     (make-node-enum-told t)
