@@ -12,24 +12,19 @@ use mathlib.Core.Bool.{Bool, true, false}
 use mathlib.Core.Logic.{_↔_}
 use mathlib.Core.List.{List, [], _++_}
 use mathlib.Core.Option.{Option, none, some}
-use lib.ListN.{length, length-append, take}
+use lib.ListN.{length, take}
 use borrow.Author.Tests.{leb-true, le-leb}
-use Rattle.words.specs.Words.{word}
 use Rattle.words.specs.Outcome.{Outcome, result, faulty, refused}
 use Rattle.words.proofs.Logic.{and-i, and-l, and-r, isFalse}
 use Rattle.table.specs.Table.{Table}
 use Rattle.table.specs.Check.{readTable}
 use Rattle.cell.specs.Cell.{start}
-use Rattle.flat.specs.Walk.{arrives, Walk, walkOf}
-use Rattle.flat.specs.Nodes.{headerWidth}
-use Rattle.flat.specs.declared.Header.the-variants.{Good}
-use Rattle.flat.proofs.Masks.{walk-tested}
-use Rattle.tree.specs.Tree.{Tree, tree, size, depth, asked, answer, named, conflict}
+use Rattle.flat.specs.Walk.{Walk, walkOf}
+use Rattle.tree.specs.Tree.{Tree, tree, size, depth, conflict}
 use Rattle.tree.specs.Written.{written}
 use Rattle.tree.specs.Generate.{fits, judged, generateOf, bufferOf, Measure, measured, surveyOf, measureOf}
 use Rattle.tree.proofs.Depth.{asked-few, tree-deepest, depth-few}
-use Rattle.tree.proofs.Paths.{sound-tree, header-good, path-whole, walk-written}
-use Rattle.tree.proofs.Sizes.{length-nodes, size-pos}
+use Rattle.tree.proofs.Paths.{sound-tree, walk-written, walk-counts}
 use Rattle.tree.proofs.Demand.{read-sane, judged-result, buffer-is, words-are}
 
 -- ---- "The tree limit applies: over it the answer is 5, then 6 as in generating"
@@ -121,23 +116,11 @@ module _ (ws : List ℕ) (t : Table) (reads : readTable ws ≡ result t) (m : Me
   abbrev flat : List ℕ
   flat = written (t .width) grown
 
-  -- a walk that finishes counts the tests of the tree's own path
-  counts : (rest : List ℕ) (w : ℕ) (a : Walk) → walkOf (flat ++ rest) w ≡ result a → a .count ≡ length (asked grown w)
-  unfolding written
-  counts rest w a e =
-      let s = read-sane ws t reads in
-      let k = walk-tested (flat ++ rest) w a e in
-      let good = header-good (t .width) (size grown) (length (flat ++ rest)) (s .wide) (s .narrow) (size-pos grown) (omega (arith, within)) (simp length-append (omega (arith, length-nodes grown 1))) in
-      let whole = path-whole (t .width) grown rest w (s .wide) (s .narrow) (omega (arith, within)) (sound-tree (t .entries) (t .width) (s .good) (s .short)) in
-      let header : Good (t .width) (size grown) ≡ Good (headerWidth (word (flat ++ rest) 0)) (k .nodes) = sym good ∙ k .header in
-      let wide : t .width ≡ headerWidth (word (flat ++ rest) 0) = cc in
-      let many : size grown ≡ k .nodes = cc in
-      let path : arrives (named (answer grown w)) (asked grown w) ≡ arrives (a .entry) (k .tests) = sym whole ∙ (rw (← many, ← wide) at (k .walks)) in
-      let tests : asked grown w ≡ k .tests = cc in
-      k .counts ∙ ap length (sym tests)
-
   few : (rest : List ℕ) (w : ℕ) (a : Walk) → walkOf (flat ++ rest) w ≡ result a → a .count ≤ m .tests
-  few rest w a e = omega (arith, counts rest w a e, asked-few grown w, tests-are)
+  few rest w a e =
+      let s = read-sane ws t reads in
+      let counts = walk-counts (t .width) grown rest w (s .wide) (s .narrow) (omega (arith, within)) (sound-tree (t .entries) (t .width) (s .good) (s .short)) a e in
+      omega (arith, counts, asked-few grown w, tests-are)
 
   longest : (w : ℕ) × (w < 2 ^ (t .width)) × (a : Walk) × ((rest : List ℕ) → walkOf (flat ++ rest) w ≡ result a) × (a .count ≡ m .tests)
   longest =
