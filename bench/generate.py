@@ -1,10 +1,10 @@
-"""Times mktree and the same algorithm in C (generate.c) as processes, on the tables of tests/hardest.py and some more; and sizing, a
-request of probe, on the same tables.
+"""Times mktree and the same algorithm in C (generate.c) as processes, on the tables of tests/hardest.py and some more. On the same tables
+sizing against generating into 16,384 words, both as requests of probe.
 
 Usage: generate.py mktree program probe directory [compare | instructions]. First the two must print the same bytes for each table, and
 the size must be that of the tree, or the same refusal; with `compare` that is all. From each time that of a table without entries is
-subtracted: starting a process and printing a line or two. With `instructions` valgrind counts them instead, which no load of the machine
-changes.
+subtracted: starting a process, and printing what it prints anyway. With `instructions` valgrind counts them instead, which no load of the
+machine changes.
 """
 
 import random
@@ -46,15 +46,20 @@ def cases():
 
 
 def write_table(directory, name, words):
-    """The file of a table, and beside it that of the request to size it."""
+    """The file of a table, and beside it those of the requests to size its tree and to make it."""
     file = directory / f"{name}.table"
     file.write_bytes(pack(words))
-    request(file).write_bytes(request_bytes(("measure", words)))
+    sizing(file).write_bytes(request_bytes(("measure", words)))
+    making(file).write_bytes(request_bytes(("generate", words, [0] * 16384)))
     return file
 
 
-def request(file):
-    return file.with_suffix(".request")
+def sizing(file):
+    return file.with_suffix(".sizing")
+
+
+def making(file):
+    return file.with_suffix(".making")
 
 
 def write_tables(directory):
@@ -76,10 +81,15 @@ def compare(program, other, probe, files):
         data = file.read_bytes()
         text = mktree.text_of(program, data)
         mktree.stop_at_difference(name, data, text, mktree.text_of(other, data))
-        size = running.output_of(probe, request(file).read_bytes()).decode()
+        size = running.output_of(probe, sizing(file).read_bytes()).decode()
         if not size.startswith(sized_as(text)):
             sys.exit(f"{name}: probe sizes it {size!r}, and mktree's lines begin {text[:40]!r}")
     print(f"generate: the same lines for {len(files)} tables, and the same sizes")
+
+
+def runs_of(program, other, probe, file):
+    """Of a table: mktree, C, sizing and generating by probe."""
+    return (program, file), (other, file), (probe, sizing(file)), (probe, making(file))
 
 
 def ratio_text(proved, in_c, starts):
@@ -94,19 +104,21 @@ def ratio_text(proved, in_c, starts):
 
 def measure(program, other, probe, files, empty):
     print(f"load before: {load()}; {REPEATS} turns; ms by the clock: best, median, worst; ratios are of processor time, less the start")
-    runs = [run for _, file in [("", empty), *files] for run in ((program, file), (other, file), (probe, request(file)))]
+    runs = [run for _, file in [("", empty), *files] for run in runs_of(program, other, probe, file)]
     times = take_turns(runs, REPEATS)
-    starts, worst, sizing = times[:3], 0, []
-    print(f"{'no entries':36} mktree {starts[0].text()}   C {starts[1].text()}   sized {starts[2].text()}")
-    for (name, _), proved, in_c, sized in zip(files, times[3::3], times[4::3], times[5::3], strict=True):
-        ratio, said = ratio_text(proved, in_c, starts)
+    for pair, names in ((0, ("mktree", "C")), (2, ("sized", "made"))):
+        tell(["no entries", *(name for name, _ in files)], times[pair::4], times[pair + 1::4], names)
+    print(f"load after: {load()}")
+
+
+def tell(tables_of, ours, theirs, names):
+    """A line for each table, and the largest ratio; the first table is the one without entries."""
+    starts, worst = (ours[0], theirs[0]), 0
+    for name, one, two in zip(tables_of, ours, theirs, strict=True):
+        ratio, said = ratio_text(one, two, starts) if one is not ours[0] else (None, "")
         worst = max(worst, ratio or 0)
-        print(f"{name:36} mktree {proved.text()}   C {in_c.text()}   {said}")
-        sizing.append((name, sized, *ratio_text(sized, proved, (starts[2], starts[0]))))
-    print(f"largest ratio, mktree to C: {worst:.2f}")
-    for name, sized, _, said in sizing:
-        print(f"{name:36} sized  {sized.text()}   to mktree: {said}")
-    print(f"largest ratio, sizing to mktree: {max(ratio or 0 for _, _, ratio, _ in sizing):.2f}; load after: {load()}")
+        print(f"{name:36} {names[0]:6} {one.text()}   {names[1]:4} {two.text()}   {said}")
+    print(f"largest ratio, {names[0]} to {names[1]}: {worst:.2f}")
 
 
 def instructions_of(program, file):
@@ -116,17 +128,14 @@ def instructions_of(program, file):
     return int(re.search(r"I +refs: +([0-9,]+)", done.stderr).group(1).replace(",", ""))
 
 
-def counts_of(program, other, probe, file):
-    return [instructions_of(program, file), instructions_of(other, file), instructions_of(probe, request(file))]
-
-
 def count_instructions(program, other, probe, files, empty):
-    starts = counts_of(program, other, probe, empty)
+    starts = [instructions_of(*run) for run in runs_of(program, other, probe, empty)]
     print(f"millions of instructions, less {', '.join(f'{start / 1e6:.2f}' for start in starts)} for a table without entries")
     for name, file in files:
-        proved, in_c, sized = (count - start for count, start in zip(counts_of(program, other, probe, file), starts))
+        counts = [instructions_of(*run) for run in runs_of(program, other, probe, file)]
+        proved, in_c, sized, made = (count - start for count, start in zip(counts, starts))
         print(f"{name:36} mktree {proved / 1e6:9.3f}   C {in_c / 1e6:9.3f}   ratio {proved / in_c:5.2f}"
-              f"   sized {sized / 1e6:9.3f}   to mktree {sized / proved:5.2f}", flush=True)
+              f"   sized {sized / 1e6:9.3f}   made {made / 1e6:9.3f}   ratio {sized / made:5.2f}", flush=True)
 
 
 def main():

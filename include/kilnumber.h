@@ -1,6 +1,6 @@
 /*
- * Kilnumber for programs in C and C++: the walk of a decode tree, with the bits that it tests, the check of a tree against its
- * table, the listing of an image.
+ * Kilnumber for programs in C and C++: the walk of a decode tree, with the bits that it tests, the size of a table's tree, the check
+ * of a tree against its table, the listing of an image.
  *
  * docs/FORMAT.md has all that is written in bits: tables, trees, items and results, with every refusal's number and its place, and
  * the orders in which refusals are looked for. This file gives them names.
@@ -32,6 +32,8 @@ enum kilnumber_refusal {
     KILNUMBER_TABLE_WORD = 2,      /* a head word of the table is wrong, or the table ends early or late */
     KILNUMBER_TABLE_PATTERN = 3,   /* a mask or a value is wrong */
     KILNUMBER_TABLE_FIELD = 4,     /* a field is wrong, or an entry's bits are not covered */
+    KILNUMBER_TREE_SIZE = 5,       /* the table's tree is over the limit of 16,384 words */
+    KILNUMBER_AMBIGUOUS = 6,       /* some word is ambiguous by the table; kilnumber_word has it */
     KILNUMBER_HIGH_WORD = 7,       /* the word has a bit at or above the tree's width */
     KILNUMBER_TREE_HEADER = 8,     /* the tree's header or its length is wrong */
     KILNUMBER_DAMAGED_NODE = 9,    /* a node on the path is damaged */
@@ -49,7 +51,8 @@ static inline uint32_t kilnumber_number(uint64_t result) { return (uint32_t)(res
 /* Walks a tree with a word. The tree's bytes need no alignment. Refusals: 8, 7, 9. */
 uint64_t kilnumber_walk(const uint8_t *tree, size_t tree_bytes, uint32_t word);
 
-/* Without a refusal: whether nothing is named; else the entry that is; and how many test nodes the walk passed. */
+/* Without a refusal: whether nothing is named; else the entry that is; and how many test nodes the walk passed. In the result of a
+ * size kilnumber_tests is the greatest number of tests on a path to any leaf. */
 static inline int kilnumber_is_nothing(uint64_t result) { return (int)(result >> 8 & 1); }
 static inline uint32_t kilnumber_entry(uint64_t result) { return (uint32_t)(result & 0xff); }
 static inline uint32_t kilnumber_tests(uint64_t result) { return (uint32_t)(result >> 16 & 0xffff); }
@@ -66,6 +69,18 @@ static inline uint32_t kilnumber_place(uint64_t result) { return (uint32_t)(resu
  * key. Only words of the width may be looked up so (the mask has no higher bit, and such a word is refused), and only walks that
  * aren't refused may be kept. examples/cache.h is such a cache. */
 uint32_t kilnumber_mask(const uint8_t *tree, size_t tree_bytes, uint32_t word);
+
+/* ------------------------------------------------------------------------------------------------------------- the size */
+
+/* The size of a table's tree, without memory for it. Lend kilnumber_nodes + 1 words for the tree that generating writes. No walk of
+ * that tree tests more than kilnumber_tests says, and some word of the width tests that many. Refusals: 1 to 4, 5, 6. */
+uint64_t kilnumber_measure(const uint32_t *table, size_t table_words);
+
+/* Without a refusal: the number of nodes. (The greatest number of tests is kilnumber_tests.) */
+static inline uint32_t kilnumber_nodes(uint64_t result) { return (uint32_t)(result & 0xffff); }
+
+/* After KILNUMBER_AMBIGUOUS: the ambiguous word that generating answers. */
+static inline uint32_t kilnumber_word(uint64_t result) { return (uint32_t)(result & 0xffffffff); }
 
 /* ------------------------------------------------------------------------------------------------------------- the check */
 
@@ -84,8 +99,8 @@ uint64_t kilnumber_list(const uint32_t *table, size_t table_words, const uint32_
 /* Without a refusal: the number of items of a listing. */
 static inline uint32_t kilnumber_items(uint64_t result) { return (uint32_t)(result & 0xffffffff); }
 
-/* The place in the result of a listing or a check: after 1 to 4 the index of the table's word at fault, after KILNUMBER_NO_ROOM the
- * halfword address of the first item left out. (A walk's is kilnumber_place.) */
+/* The place in the result of a listing, a check or a size: after 1 to 4 the index of the table's word at fault, after
+ * KILNUMBER_NO_ROOM the halfword address of the first item left out. (A walk's is kilnumber_place.) */
 static inline uint32_t kilnumber_list_place(uint64_t result) { return (uint32_t)(result & 0xffffffff); }
 
 /* An item: its kind, the entry where it is an instruction, and its halfword address; twice that is its offset in bytes. */

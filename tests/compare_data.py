@@ -108,7 +108,7 @@ def compare_file(path, one):
 
 
 def compare_tree(path, mktree_path, one, tally):
-    """The tree that mktree prints: the second implementation's, which is no refusal, and probe's checker accepts it."""
+    """The tree that mktree prints: the second implementation's, which is no refusal; probe's checker accepts it, and probe sizes it."""
     data = probe.pack(one.words)
     expected = mktree_text(data)
     if expected.startswith("refused"):
@@ -116,8 +116,10 @@ def compare_tree(path, mktree_path, one, tally):
     seen = mktree.text_of(mktree_path, data)
     mktree.stop_at_difference(one.name, data, expected, seen)
     tree = [int(line.split(" ")[1], 16) for line in seen.splitlines()]
-    question = "check", one.words, tree
-    probe.stop_at_difference(f"{one.name}, check", question, "7 0 0 00000000 yes", probe.ask(path, [question])[0])
+    questions = ("check", one.words, tree), ("measure", one.words)
+    checked, size = probe.ask(path, questions)
+    probe.stop_at_difference(f"{one.name}, check", questions[0], "7 0 0 00000000 yes", checked)
+    probe.stop_at_difference(f"{one.name}, size", questions[1], line_of(questions[1]), size)
     tally["tree lines"] += len(tree)
     return tree
 

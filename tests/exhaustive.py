@@ -1,4 +1,4 @@
-"""Every table of a small family, every word: probe's lookup, generate, check and walk against the second implementation.
+"""Every table of a small family, every word: probe's lookup, generate, check, walk and sizing against the second implementation.
 
 Usage: exhaustive.py [path of probe] [long]. Exits with status 1 at the first difference. All tables are of width 3 at most:
 
@@ -10,8 +10,9 @@ Usage: exhaustive.py [path of probe] [long]. Exits with status 1 at the first di
 
 Each table is looked up with all words and two that are too high, generated into 16 words (each tree of width 3 fits) and into as
 many as its tree has and one fewer; its tree is checked and walked with all words, and each walk's count is the number of ones in
-its mask. Tables without conditions are also checked with all trees of one and three nodes (two entries: a part of them but for the
-long form). At the end mistakes are put into the second implementation one by one, and each must give another line somewhere.
+its mask. It is sized: refused as it is generated into 16 words, else with one node fewer than words, and with the greatest count of
+these walks. Tables without conditions are also checked with all trees of one and three nodes (two entries: a part of them but for
+the long form). At the end mistakes are put into the second implementation one by one, and each must give another line somewhere.
 """
 
 import itertools
@@ -21,7 +22,7 @@ from collections import Counter
 
 import masks
 import probe
-from second import checker, selection, tree, walk, wrong_masks
+from second import checker, measure, selection, tree, walk, wrong_masks, wrong_sizes
 from second.lines import line_of
 from second.reader import Refusal
 from second.tables import EntryPlan, TablePlan, free_runs, lay_out, own_bits
@@ -107,6 +108,7 @@ def questions_of(words, with_small_trees):
         yield "check", words, made
         for word in (*range(1 << width), *HIGH_WORDS):
             yield "walk", made, word
+    yield "measure", words
     if with_small_trees:
         yield from (("check", words, other) for other in small_trees(words[0] >> 16 & 0xFFF))
 
@@ -123,6 +125,13 @@ def in_groups(questions):
         yield [asked for one_table in group for asked in one_table]
 
 
+def check_size(name, question, seen, made, most):
+    """Sizing against the line of generating into enough words, and against the greatest count of all walks."""
+    _, number, place, word, *words = made.split(" ")
+    wanted = ["12", number, place, word, *(f"{int(one) - 1} {most}" for one in words)]
+    probe.stop_at_difference(f"{name}, against generating and walks", question, " ".join(wanted), seen)
+
+
 def compare(path, long):
     tally = Counter()
     for group in in_groups(all_questions(long)):
@@ -134,8 +143,14 @@ def compare(path, long):
             tally[f"{question[0]} {parts[1]}"] += 1
             tally[question[0]] += 1
             tally["questions"] += 1
+            if question[0] == "generate" and question[2] == BUFFER:
+                made, most = seen.partition(" |")[0], 0
             if question[0] == "walk" and parts[1] == "0":
-                masks.check_ones(name, question, *masks.tests_and_mask(seen))
+                count, mask = masks.tests_and_mask(seen)
+                masks.check_ones(name, question, count, mask)
+                most = max(most, count)
+            if question[0] == "measure":
+                check_size(name, question, seen, made, most)
     return tally
 
 
@@ -191,8 +206,15 @@ MISTAKES = [
     ("a mask without the zero sides", "walk", wrong_masks.zero_sides_left_out),
     ("a mask without the last test", "walk", wrong_masks.last_test_left_out),
     ("as many ones from bit 0 on", "walk", wrong_masks.as_many_ones),
+    ("tests of zero sides alone", "measure", wrong_sizes.zero_sides_alone),
+    ("tests of one sides alone", "measure", wrong_sizes.one_sides_alone),
+    ("a leaf counted as a test", "measure", wrong_sizes.leaf_counted),
+    ("paths to nothing left out", "measure", wrong_sizes.nothing_left_out),
+    ("bits of all paths", "measure", wrong_sizes.bits_of_all_paths),
+    ("words for nodes", "measure", wrong_sizes.words_for_nodes),
+    ("6 without its word", "measure", wrong_sizes.word_left_out),
 ]
-MODULES = {"selection": selection, "tree": tree, "checker": checker, "walk": walk}
+MODULES = {"selection": selection, "tree": tree, "checker": checker, "walk": walk, "measure": measure}
 RIGHT = {(name, function): getattr(module, function) for name, module in MODULES.items() for _, function, _ in MISTAKES
          if hasattr(module, function)}
 REMEMBERED = (tree.nodes_once, checker.steps_once, checker.first_missing_once, checker.check_once)
@@ -234,7 +256,7 @@ def notice_mistakes():
 
 
 LEAST = {"lookup 0": 50000, "lookup 6": 500, "lookup 7": 10000, "generate 0": 10000, "generate 5": 5000, "generate 6": 300,
-         "check 0": 5000, "check 14": 5000, "walk 0": 50000, "walk 7": 10000}
+         "check 0": 5000, "check 14": 5000, "walk 0": 50000, "walk 7": 10000, "measure 0": 5000, "measure 6": 300}
 
 
 def main():
@@ -244,7 +266,7 @@ def main():
     probe.require_enough(tally, LEAST)
     noticed = notice_mistakes()
     tables = sum(1 for _ in family(long))
-    counts = ", ".join(f"{name}: {tally[name]}" for name in ("lookup", "generate", "check", "walk"))
+    counts = ", ".join(f"{name}: {tally[name]}" for name in ("lookup", "generate", "check", "walk", "measure"))
     print(f"exhaustive good: {tables} tables, {tally['questions']} questions ({counts}); {noticed} of {len(MISTAKES)} mistakes noticed")
 
 

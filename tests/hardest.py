@@ -1,16 +1,18 @@
 """Runs mktree on the hardest tables that are allowed: the largest tables, every condition open in every cell, trees at
-the limit of 16,384 words, and trees that would have 2^32 leaves. The outcomes follow from how the tables are built;
-the second implementation isn't used.
+the limit of 16,384 words, and trees that would have 2^32 leaves; probe sizes them. The outcomes follow from how the tables are
+built; the second implementation isn't used.
 
-Usage: hardest.py [path of mktree]. Exits with status 1 if an outcome is wrong, or if running.py stops a run because of the processor's
-time. The times that it prints are no test: bench/generate measures.
+Usage: hardest.py [path of probe [path of mktree]]. Exits with status 1 if an outcome is wrong, if sizing takes much more of the
+processor's time than making the tree, or if running.py stops a run because of that time. The other times that it prints are no
+test: bench/generate measures.
 """
 
 import random
+import resource
 import sys
-import time
 
 import mktree
+import probe
 from probe import pack
 from second import tables
 from second.tables import ALL_BITS, MOST_WORDS, EntryPlan, TablePlan, span
@@ -124,20 +126,37 @@ def cases(rng):
     yield "56 entries, 2^32 conflict leaves", both, NOT_FITTING, None
 
 
+def expected_size(expected):
+    """Each tree here that fits is at the limit."""
+    return "12 5 0 00000000" if expected == NOT_FITTING else "12 0 0 00000000 16383 13"
+
+
+def spent(run):
+    """What a run gives, and how many seconds of the processor it took; the clock is not looked at, as in running.py."""
+    before = resource.getrusage(resource.RUSAGE_CHILDREN)
+    given = run()
+    after = resource.getrusage(resource.RUSAGE_CHILDREN)
+    return given, after.ru_utime - before.ru_utime + after.ru_stime - before.ru_stime
+
+
 def main():
-    path = mktree.path_from_arguments()
+    probe_path, path = probe.path_from_arguments(), mktree.path_from_arguments(2)
     times = []
     for name, plan, expected, length in cases(random.Random(SEED)):
         words = tables.lay_out(plan).words
         if len(plan.entries) > MOST_ENTRIES or len(words) > MOST_WORDS or length not in (None, len(words)):
             sys.exit(f"{name}: {len(plan.entries)} entries, {len(words)} words")
-        start = time.monotonic()
-        seen = mktree.text_of(path, pack(words))
-        taken = time.monotonic() - start
+        seen, taken = spent(lambda: mktree.text_of(path, pack(words)))
         mktree.stop_at_difference(name, pack(words), expected, seen)
-        print(f"{taken:6.2f} s  {name} ({len(words)} words, {len(plan.entries)} entries)", flush=True)
-        times.append(taken)
-    print(f"hardest good: {len(times)} tables, the longest took {max(times):.2f} s")
+        question = "measure", words
+        (line,), sizing = spent(lambda: probe.ask(probe_path, [question]))
+        probe.stop_at_difference(name, question, expected_size(expected), line)
+        if sizing > 2 * taken + 0.2:
+            sys.exit(f"{name}: sizing took {sizing:.2f} s, mktree {taken:.2f} s")
+        print(f"{taken:6.2f} s, sizing {sizing:.2f} s  {name} ({len(words)} words, {len(plan.entries)} entries)", flush=True)
+        times.append((taken, sizing))
+    trees, sizes = zip(*times)
+    print(f"hardest good: {len(times)} tables, the longest took {max(trees):.2f} s, the longest sizing {max(sizes):.2f} s")
 
 
 if __name__ == "__main__":

@@ -23,26 +23,36 @@ def pack(words):
     return struct.pack(f"<{len(words)}I", *words)
 
 
-def part_of(value):
-    """The words of a part: how many bytes, then the bytes, padded to whole words. The value is bytes, words or one number. The padding isn't
+def part_bytes(value):
+    """A part: how many bytes, then the bytes, padded to whole words. The value is bytes, words or one number. The padding isn't
     zero, because what it holds is ignored."""
     data = value if isinstance(value, bytes) else pack(value if isinstance(value, list) else [value])
-    padded = data + b"\xa5" * (-len(data) % 4)
-    return [len(data), *struct.unpack(f"<{len(padded) // 4}I", padded)]
+    return pack([len(data)]) + data + b"\xa5" * (-len(data) % 4)
+
+
+def part_of(value):
+    """The words of a part."""
+    return words_of(part_bytes(value))
 
 
 # The requests in the order of their numbers, from 1, and what a call takes from each part: words, bytes or a number.
 FORMS = {"read": "W", "lookup": "WN", "generate": "WW", "walk bytes": "BN", "decode": "WNW", "encode": "WNW", "check": "WW",
-         "step": "WWBN", "list": "WWBW", "walk": "WN", "mask": "BN"}
+         "step": "WWBN", "list": "WWBW", "walk": "WN", "mask": "BN", "measure": "W"}
 NAMES = list(FORMS)
 
 
-def request_of(question):
-    """The words of a request. A question is ("read", table), ("lookup", table, word), ("generate", table, buffer),
+def request_bytes(question):
+    """A request. A question is ("read", table), ("lookup", table, word), ("generate", table, buffer),
     ("walk bytes", bytes, word), ("decode", table, word, buffer), ("encode", table, entry, values), ("check", table, tree),
-    ("step", table, tree, image, address), ("list", table, tree, image, buffer), ("walk", tree, word) or ("mask", bytes, word)."""
+    ("step", table, tree, image, address), ("list", table, tree, image, buffer), ("walk", tree, word), ("mask", bytes, word) or
+    ("measure", table)."""
     name, *parts = question
-    return [NAMES.index(name) + 1, len(parts), *(word for part in parts for word in part_of(part))]
+    return pack([NAMES.index(name) + 1, len(parts)]) + b"".join(part_bytes(part) for part in parts)
+
+
+def request_of(question):
+    """The words of a request."""
+    return words_of(request_bytes(question))
 
 
 def words_of(data):
@@ -69,12 +79,11 @@ def batches(requests):
     """The requests in groups that fit in one input each."""
     group, size = [], 0
     for request in requests:
-        bytes_needed = 4 * len(request)
-        if group and size + bytes_needed > MOST_BYTES:
+        if group and size + len(request) > MOST_BYTES:
             yield group
             group, size = [], 0
         group.append(request)
-        size += bytes_needed
+        size += len(request)
     if group:
         yield group
 
@@ -82,8 +91,8 @@ def batches(requests):
 def ask(path, questions):
     """One line for each question, in order; another number of lines ends the test."""
     lines = []
-    for group in batches([request_of(question) for question in questions]):
-        answers = lines_of(path, b"".join(pack(request) for request in group))
+    for group in batches([request_bytes(question) for question in questions]):
+        answers = lines_of(path, b"".join(group))
         if len(answers) != len(group):
             last = answers[-1] if answers else "(none)"
             sys.exit(f"{len(group)} requests, but {len(answers)} lines; the last line: {last}")

@@ -74,6 +74,7 @@ def parts_not_taken():
         yield f"{extra} parts after the table", bytes_of([1, 1 + extra, *table, *strange * extra, *EMPTY]), [GOOD_LINE, EMPTY_LINE]
         yield f"{extra} parts, the last cut", bytes_of([1, 1 + extra, *table, *strange * extra])[:-1], ["stopped 0"]
     yield "a buffer after the buffer", asked(3, [], EIGHT[:2], EIGHT), ["3 1 0 00000000 | 11111111 22222222"]
+    yield "a buffer after a table to size", asked(12, PRINTED, EIGHT), ["12 0 0 00000000 3 1"]
 
 
 def parts_not_there():
@@ -91,8 +92,10 @@ def parts_not_there():
     yield "walk, no word", bytes_of([10, 1, *probe.part_of(TREE)]), ["10 0 0 00000000 nothing 1 00000002"]
     yield "mask, no parts", bytes_of([11, 0]), ["11 0 0 00000000 00000000"]
     yield "mask, no word", bytes_of([11, 1, *probe.part_of(TREE)]), ["11 0 0 00000000 00000002"]
+    yield "sizing, no parts", bytes_of([12, 0]), ["12 1 0 00000000"]
     # what comes next in the input is no part of it
     yield "nothing is taken from the next request", bytes_of([2, 1, *printed, *GOOD]), ["2 0 0 00000000 nothing", GOOD_LINE]
+    yield "no table is taken from the next request", bytes_of([12, 0, *GOOD]), ["12 1 0 00000000", GOOD_LINE]
 
 
 def words_of_parts():
@@ -102,6 +105,7 @@ def words_of_parts():
         what = f"{len(rest)} bytes over"
         yield "a table, " + what, asked(1, probe.pack(PRINTED) + rest), [GOOD_LINE]
         yield "a table of no word, " + what, asked(1, rest), [EMPTY_LINE]
+        yield "a table to size, " + what, asked(12, probe.pack(PRINTED) + rest), ["12 0 0 00000000 3 1"]
         yield "a buffer, " + what, asked(5, PRINTED, 0, probe.pack(EIGHT) + rest), ["5 0 0 00000000 nothing | " + EIGHT_TEXT]
         yield "a buffer of no word, " + what, asked(3, [], rest), ["3 1 0 00000000 |"]
         yield "values, " + what, asked(6, PRINTED, 0, probe.pack([1]) + rest), ["6 0 0 00000000 00000003"]

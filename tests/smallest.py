@@ -34,8 +34,8 @@ FAULTS = {
         "value outside its mask, unmatching pattern"],
     4: ["width 0", "outside own bits", "outside own bits, below a short entry", "overlapping the mask", "overlapping an earlier field",
         "own bits not covered", "own bits not covered, with a field"],
-    5: ["tree does not fit", "over 16,384"],
-    6: ["generating, by mktree", "generating", "lookup", "decode"],
+    5: ["tree does not fit", "over 16,384", "over 16,384, sizing"],
+    6: ["generating, by mktree", "generating", "sizing", "lookup", "decode"],
     7: ["lookup", "decode", "walk", "walk for C"],
     8: ["length 0", "kind", "spare bit", "width 0", "width 33", "no nodes", "more nodes than words after it", "length 0, for C",
         "length not a multiple of four, for C"],
@@ -60,7 +60,7 @@ WORDS = {6, 13}
 FAULTY_TABLE = [1, 2, 3, 4]
 ALLOWED = {1: FAULTY_TABLE, 2: FAULTY_TABLE + [7, 6], 3: FAULTY_TABLE + [5, 6], 4: [8, 7, 9], 5: FAULTY_TABLE + [10, 7, 6],
            6: FAULTY_TABLE + [11, 12, 13], 7: FAULTY_TABLE + [14], 8: FAULTY_TABLE + [15, 16, 14], 9: FAULTY_TABLE + [15, 16, 14, 17],
-           10: [8, 7, 9]}
+           10: [8, 7, 9], 12: FAULTY_TABLE + [5, 6]}
 GENERATE, FOR_C, DECODE, LIST = 3, 4, 5, 9
 MOST_TREE_WORDS = 16384
 
@@ -210,7 +210,8 @@ def probe_cases(command, cause, data):
 def table_questions(words):
     """Every call that takes a table, with other faults beside the table's, which come later."""
     return [("read", words), ("lookup", words, 0xFFFFFFFF), ("generate", words, MARKS[:3]), ("decode", words, 0xFFFFFFFF, MARKS[:7]),
-            ("encode", words, 999, [7]), ("check", words, []), ("step", words, [], b"\x00", 9), ("list", words, [], b"\x00", MARKS[:2])]
+            ("encode", words, 999, [7]), ("check", words, []), ("step", words, [], b"\x00", 9), ("list", words, [], b"\x00", MARKS[:2]),
+            ("measure", words)]
 
 
 def mktree_cases(path, command, cause, data):
@@ -226,7 +227,9 @@ def mktree_cases(path, command, cause, data):
     if len(data) % 4 != 0:
         return []
     words = probe.words_of(data)
-    questions = table_questions(words) if cause in FAULTY_TABLE else [("generate", words, [0xFFFFFFFF] * MOST_TREE_WORDS)]
+    # mktree's buffer is as long as a tree may be, so sizing refuses what it does
+    of_the_tree = [("generate", words, [0xFFFFFFFF] * MOST_TREE_WORDS), ("measure", words)]
+    questions = table_questions(words) if cause in FAULTY_TABLE else of_the_tree
     return [Case(command, cause, question, refusal=refusal) for question in questions]
 
 

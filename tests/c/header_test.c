@@ -1,8 +1,9 @@
 /*
  * The header's names, accessors and helpers; compiled as C and as C++, linked with the library. Every number here is from
- * documents 01 and 02, and not taken from the header.
+ * documents 01 and 02, and not taken from the header; where a size has its parts is from docs/FORMAT.md.
  *
  * The table: width 32, entry 0 of 16 bits `1...`, entry 1 of 32 bits `01..`. Its tree tests bit 31, then bit 30.
+ * The ambiguous one: width 3, `1--` and `--1`. The large one: width 32, one entry whose condition looks at every bit.
  */
 
 #include <stdio.h>
@@ -15,6 +16,8 @@ static const uint32_t table[] = {0x10020020, 0x20001010, 0x80000000, 0x80000000,
                                  0x20012010, 0xc0000000, 0x40000000, 0x3000001e};
 static const uint8_t tree_bytes[] = {5, 0, 0x20, 0x70, 5, 0, 0x80, 0x8f, 4, 0, 0, 0x8f, 0, 0, 0, 0xa0, 1, 0, 0, 0x90, 0, 0, 0, 0x90};
 #define TREE_WORDS (sizeof tree_bytes / 4)
+static const uint32_t ambiguous[] = {0x10020003, 0x20000310, 4, 4, 0x30000002, 0x20000310, 1, 1, 0x30000102};
+static const uint32_t large[] = {0x10010020, 0x20002011, 0, 0, 0x30000020, 0x40000002, 1, 0, 0x50000000, 1, 0, 0x50000000, 0xffffffff, 1};
 
 static unsigned compared;
 
@@ -27,9 +30,10 @@ static void expect(const char *what, uint64_t seen, uint64_t wanted) {
 
 static void names(void) {
     static const int refusals[] = {KILNUMBER_NO_REFUSAL, KILNUMBER_TABLE_START, KILNUMBER_TABLE_WORD, KILNUMBER_TABLE_PATTERN,
-                                   KILNUMBER_TABLE_FIELD, KILNUMBER_HIGH_WORD, KILNUMBER_TREE_HEADER, KILNUMBER_DAMAGED_NODE,
-                                   KILNUMBER_WRONG_TREE, KILNUMBER_NO_IMAGE_TABLE, KILNUMBER_BAD_IMAGE, KILNUMBER_NO_ROOM};
-    static const int numbers[] = {0, 1, 2, 3, 4, 7, 8, 9, 14, 15, 16, 17};
+                                   KILNUMBER_TABLE_FIELD, KILNUMBER_TREE_SIZE, KILNUMBER_AMBIGUOUS, KILNUMBER_HIGH_WORD,
+                                   KILNUMBER_TREE_HEADER, KILNUMBER_DAMAGED_NODE, KILNUMBER_WRONG_TREE, KILNUMBER_NO_IMAGE_TABLE,
+                                   KILNUMBER_BAD_IMAGE, KILNUMBER_NO_ROOM};
+    static const int numbers[] = {0, 1, 2, 3, 4, 5, 6, 7, 8, 9, 14, 15, 16, 17};
     for (size_t at = 0; at < sizeof numbers / sizeof numbers[0]; at++)
         expect("a refusal's number", (uint64_t)refusals[at], (uint64_t)numbers[at]);
     expect("an item's kind", kilnumber_item_kind(0xc2a00005), KILNUMBER_INSTRUCTION);
@@ -59,6 +63,23 @@ static void masks(const uint32_t *tree) {
     for (uint32_t top = 0; top < 16; top++)
         expect("a mask by words", kilnumber_mask_words(tree, TREE_WORDS, top << 28), top < 8 ? 0xc0000000 : 0x80000000);
     expect("a mask of too few words", kilnumber_mask_words(tree, TREE_WORDS - 1, 0), 0);
+}
+
+static void size(void) {
+    uint64_t result = kilnumber_measure(table, 9);
+    expect("a size", result, 0x20005);
+    expect("the words of the tree", kilnumber_nodes(result) + 1, TREE_WORDS);
+    expect("the tests of its deepest leaf", kilnumber_tests(result), 2);
+    expect("the most nodes", kilnumber_nodes(0x203fff), 16383);
+    expect("the most tests", kilnumber_tests(0x203fff), 32);
+    result = kilnumber_measure(ambiguous, 9);
+    expect("number 6", kilnumber_number(result), KILNUMBER_AMBIGUOUS);
+    expect("the ambiguous word", kilnumber_word(result), 5);
+    expect("the highest word", kilnumber_word((uint64_t)6 << 32 | 0xffffffff), 0xffffffff);
+    expect("number 5 alone", kilnumber_measure(large, 14), (uint64_t)KILNUMBER_TREE_SIZE << 32);
+    result = kilnumber_measure(table, 8);
+    expect("a table that ends early", kilnumber_number(result), KILNUMBER_TABLE_WORD);
+    expect("its place", kilnumber_list_place(result), 8);
 }
 
 static void check(const uint32_t *tree) {
@@ -93,6 +114,7 @@ int main(void) {
     names();
     one_tree(tree);
     masks(tree);
+    size();
     check(tree);
     list(tree);
     printf("header good: %u compared\n", compared);

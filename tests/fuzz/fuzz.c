@@ -1,11 +1,12 @@
 /*
- * Hostile inputs for kilnumber_walk, kilnumber_mask, kilnumber_check and kilnumber_list: what they answer against reference.h, and
- * whether they touch other memory.
+ * Hostile inputs for kilnumber_walk, kilnumber_mask, kilnumber_measure, kilnumber_check and kilnumber_list: what they answer against
+ * reference.h, and whether they touch other memory.
  *
- * Usage: fuzz trees lists walks listings (files of tests/c/make_trees.py and make_lists.py, then how many of each).
+ * Usage: fuzz trees lists sizes walks listings tables (files of tests/c/make_trees.py, make_lists.py and tests/c/make_sizes.py, then
+ * how many walks, listings and sized tables).
  * Inputs are altered at random; an input that came to a new place of the reference (check, index or tests passed) is kept and
  * altered further. Everything lent lies between pages that can't be touched, and must be unchanged afterwards.
- * With -DSTAND_IN there is no library but the reference itself, wrong in the way that a fifth argument numbers.
+ * With -DSTAND_IN there is no library but the reference itself, wrong in the way that a seventh argument numbers.
  */
 
 #define _DEFAULT_SOURCE
@@ -23,8 +24,11 @@
 #define MOST_KEPT 20000u
 #define WORDS_A_TREE 8u
 #define MOST_LIST_WORDS 4096u
+#define MOST_SIZE_WORDS (MOST_TABLE_WORDS + 4)
+#define MOST_ALTERED_WORDS 512u  /* of a table that is sized: the reference takes long where there are many entries */
+#define MOST_KEPT_NODES 1000u
 #define MARK 0x5eed5eedu
-#define LONG_OFTEN 100u          /* every so many-th listing lends more than 2,097,152 bytes */
+#define LONG_OFTEN 100u          /* every so many-th listing lends more than 2,097,152 bytes, sized table about 16,384 words */
 
 static void stop(const char *why) {
     printf("fuzz: %s\n", why);
@@ -74,9 +78,14 @@ static void require_same(const void *lent, const void *from, size_t bytes) {
 
 static unsigned wrong; /* a check that is left out, or one of these */
 enum {
-    LEAF_COUNTED = LIST_END + 1, READS_PAST, WRITES_TREE, MASK_FROM_ONE, MASK_WHEN_REFUSED, MASK_READS_PAST,
-    ITEM_AFTER, PLACE_AFTER, CHECK_IS_YES, CHECK_PLACE, LAST_WRONG
+    LEAF_COUNTED = SIZE_END + 1, READS_PAST, WRITES_TREE, MASK_FROM_ONE, MASK_WHEN_REFUSED, MASK_READS_PAST,
+    ITEM_AFTER, PLACE_AFTER, CHECK_IS_YES, CHECK_PLACE,
+    SIZE_SWAPPED, SIZE_IN_WORDS, SIZE_LEAF_COUNTED, SIZE_NUMBER_ABOVE, SIZE_NO_WORD, SIZE_NO_PLACE, SIZE_LIMIT_LOWER, SIZE_READS_PAST,
+    SIZE_READS_BEFORE, SIZE_WRITES_TABLE, LAST_WRONG
 };
+
+/* Then only sizes can differ, and only these are tried. */
+static int is_wrong_size(void) { return (wrong > LIST_END && wrong < SIZE_END) || wrong >= SIZE_SWAPPED; }
 
 #ifdef STAND_IN
 uint64_t kilnumber_walk(const uint8_t *tree, size_t length, uint32_t word) {
@@ -93,6 +102,22 @@ uint32_t kilnumber_mask(const uint8_t *tree, size_t length, uint32_t word) {
     if (wrong == MASK_FROM_ONE && walked.number == 0) walked.mask |= 1;
     if (wrong == MASK_WHEN_REFUSED) walked.mask |= walked.number;
     return walked.mask;
+}
+
+uint64_t kilnumber_measure(const uint32_t *table, size_t table_words) {
+    if (wrong == SIZE_READS_PAST && ((const volatile uint32_t *)table)[table_words] == 0) return 0;
+    if (wrong == SIZE_READS_BEFORE && ((const volatile uint32_t *)table)[-1] == 0) return 0;
+    if (wrong == SIZE_WRITES_TABLE && table_words > 0) ((volatile uint32_t *)(uintptr_t)table)[table_words - 1] ^= 1;
+    struct sizing sizing = reference_size(table, table_words, (enum check)wrong);
+    uint64_t result = sizing.result, number = result >> 32;
+    if (wrong == SIZE_SWAPPED && number == 0) result = (uint64_t)sizing.nodes << 16 | sizing.tests;
+    if (wrong == SIZE_IN_WORDS && number == 0) result++;
+    if (wrong == SIZE_LEAF_COUNTED && number == 0) result += 65536;
+    if (wrong == SIZE_NUMBER_ABOVE) result = number << 40 | (result & 0xffffffff);
+    if (wrong == SIZE_NO_WORD && number == 6) result = number << 32;
+    if (wrong == SIZE_NO_PLACE && number >= 1 && number <= 4) result = number << 32;
+    if (wrong == SIZE_LIMIT_LOWER && sizing.nodes + 1 >= MOST_TREE_WORDS) result = refused_list(5, 0);
+    return result;
 }
 
 uint64_t kilnumber_check(const uint32_t *table, size_t table_words, const uint32_t *tree, size_t tree_words) {
@@ -122,7 +147,7 @@ struct input {
 
 static struct input kept[MOST_KEPT];
 static size_t kept_count;
-static uint64_t walks, listings, by_number[10], by_list_number[18], by_check_number[18], by_check[LIST_END + 1];
+static uint64_t walks, listings, sizes, by_number[10], by_list_number[18], by_check_number[18], by_size_number[7], by_check[SIZE_END + 1];
 
 static void keep(const uint8_t *bytes, size_t length) {
     if (kept_count == MOST_KEPT) return;
@@ -134,7 +159,7 @@ static void keep(const uint8_t *bytes, size_t length) {
 
 /* Whether the reference came to this for the first time. */
 static int is_new(uint32_t check, uint32_t one, uint32_t other) {
-    static uint8_t seen[LIST_END + 1][128][64];
+    static uint8_t seen[SIZE_END + 1][128][64];
     uint8_t *place = &seen[check][one < 127 ? one : 127][other < 63 ? other : 63];
     int new = *place == 0;
     *place = 1;
@@ -391,6 +416,118 @@ static void fuzz_listings(uint64_t count) {
     }
 }
 
+/* ------------------------------------------------------------------------- sizes */
+
+struct words {
+    uint32_t *words;
+    size_t count;
+};
+
+static struct words tables[MOST_KEPT];
+static size_t table_count;
+
+static void keep_table(const uint32_t *words, size_t count) {
+    if (table_count == MOST_KEPT) return;
+    struct words table = {malloc(4 * count + 4), count};
+    if (table.words == NULL) stop("no memory");
+    if (count > 0) memcpy(table.words, words, 4 * count);
+    tables[table_count++] = table;
+}
+
+/* The mask of a pattern in an entry without fault: the opcode's, or one in a condition. Its value is the next word. */
+static uint32_t *some_pattern(uint32_t *entry) {
+    uint32_t *condition = entry + 3 + (entry[0] >> 4 & 15), conditions = entry[0] & 15;
+    if (conditions == 0 || below(3) == 0) return entry + 1;
+    for (uint32_t turn = below(conditions); turn > 0; turn--) condition += 3 + 3 * (condition[0] & 15);
+    return condition + 1 + 3 * below(1 + (condition[0] & 15));
+}
+
+/* Alters a table without fault so that mostly it has none afterwards: another value, another mask in a condition, an entry less, twice,
+ * or those of another table. The new count. */
+static size_t alter_table(uint32_t *words, size_t count) {
+    struct table table = {words, count, 0, 0, 0, 0, 0, {0}, NONE, NONE};
+    if (!read_table(&table) || table.entries == 0) return alter_words(words, count, 0);
+    uint32_t chosen = below(table.entries);
+    uint32_t *entry = words + table.places[chosen], *pattern = some_pattern(entry);
+    size_t from = table.places[chosen], end = chosen + 1 < table.entries ? table.places[chosen + 1] : count;
+    switch (below(6)) {
+    case 0:
+    case 1: pattern[1] ^= pattern[0] & any() & any(); return count;
+    case 2: /* a condition's mask may be any of the own bits */
+        if (pattern == entry + 1) return count;
+        pattern[0] ^= any() & any() & span(table.width - (entry[0] >> 8 & 0xff), entry[0] >> 8 & 0xff);
+        pattern[1] &= pattern[0];
+        return count;
+    case 3:
+        memmove(entry, words + end, 4 * (count - end));
+        words[0] -= 0x10000;
+        return count - (end - from);
+    case 4:
+        if (count + (end - from) > MOST_ALTERED_WORDS) return count;
+        memcpy(words + count, entry, 4 * (end - from));
+        words[0] += 0x10000;
+        return count + (end - from);
+    default: { /* all the entries of another table of the width */
+        struct words other = tables[below((uint32_t)table_count)];
+        if (other.count < 2 || (other.words[0] & 0xff) != table.width || count + other.count - 1 > MOST_ALTERED_WORDS) return count;
+        memcpy(words + count, other.words + 1, 4 * (other.count - 1));
+        words[0] += other.words[0] & 0xfff0000;
+        return count + other.count - 1;
+    }
+    }
+}
+
+/* Words that begin like a table. */
+static size_t random_table(uint32_t *words) {
+    size_t count = below(24);
+    for (size_t at = 0; at < count; at++) words[at] = some_table_word();
+    if (count > 0 && below(8) != 0) words[0] = 1u << 28 | below(4) << 16 | (1 + below(32));
+    return count;
+}
+
+static struct area size_area;
+
+static void compare_size(const uint32_t *words, size_t count) {
+    const uint32_t *lent = (const uint32_t *)(const void *)lend(size_area, words, 4 * count, below(4) == 0);
+    struct sizing sizing = reference_size(words, count, NONE);
+    uint64_t expected = sizing.result, seen = kilnumber_measure(lent, count);
+    if (seen != expected) {
+        printf("fuzz: a size (%zu table words): expected %016llx, seen %016llx\n", count, (unsigned long long)expected,
+               (unsigned long long)seen);
+        exit(1);
+    }
+    require_same(lent, words, 4 * count);
+    sizes++;
+    by_size_number[expected >> 32]++;
+    for (int check = LIST_END + 1; check < SIZE_END; check++) by_check[check] += sizing.came >> (check - LIST_END) & 1;
+    /* As with listings, a table at fault is not altered further. Nor is one with a large tree, which takes long. */
+    if ((expected >> 32 != 0 && expected >> 32 != 6) || sizing.nodes > MOST_KEPT_NODES) return;
+    uint32_t digits = 0;
+    for (uint32_t nodes = sizing.nodes; nodes > 0; nodes /= 2) digits++;
+    enum check end = expected >> 32 == 0 ? SIZE_END : CONFLICT;
+    if (is_new(end, 4 * sizing.tests + sizing.table.entries % 4, digits)) keep_table(words, count);
+}
+
+static void fuzz_sizes(uint64_t count) {
+    static uint32_t words[MOST_SIZE_WORDS];
+    size_t given = table_count;
+    size_area = make_area(4 * MOST_SIZE_WORDS);
+    for (size_t at = 0; at < given; at++) compare_size(tables[at].words, tables[at].count);
+    while (sizes < count) {
+        struct words from = tables[below((uint32_t)table_count)];
+        size_t length = from.count;
+        if (length > 0) memcpy(words, from.words, 4 * length);
+        for (uint32_t turn = below(4); turn > 0; turn--)
+            length = below(3) == 0 ? alter_words(words, length, 0) : alter_table(words, length);
+        if (below(16) == 0) length = random_table(words);
+        if (below(LONG_OFTEN) == 0) {
+            size_t more = MOST_TABLE_WORDS - 2 + below(5);
+            for (; length < more; length++) words[length] = some_table_word();
+        }
+        compare_size(words, length);
+    }
+}
+
 /* ------------------------------------------------------------------------- files */
 
 static uint32_t *read_words(const char *name, size_t *count) {
@@ -445,6 +582,18 @@ static void read_lists(const char *name) {
     free(words);
 }
 
+/* The tables without fault. */
+static void read_sizes(const char *name) {
+    size_t count, at = 1;
+    uint32_t *words = read_words(name, &count);
+    for (uint32_t turn = 0; turn < words[0] && at + 8 < count; turn++, at += 9 + words[at + 8]) {
+        uint32_t number = words[at + 1], table_words = words[at + 8];
+        if ((number == 0 || number >= 5) && table_words <= MOST_ALTERED_WORDS) keep_table(words + at + 9, table_words);
+    }
+    if (at != count || table_count < 500) stop("the file of sizes is not whole");
+    free(words);
+}
+
 static double seconds(void) {
     struct timespec now;
     clock_gettime(CLOCK_MONOTONIC, &now);
@@ -455,39 +604,48 @@ static double seconds(void) {
 static void require_each(uint64_t least) {
     static const char *const names[] = {"finished",
 #define NAME(check) #check,
-        WALK_CHECKS(NAME) "", LIST_CHECKS(NAME) "ends early"};
+        WALK_CHECKS(NAME) "", LIST_CHECKS(NAME) "ends early", SIZE_CHECKS(NAME) ""};
 #undef NAME
-    for (int check = NONE; check <= LIST_END; check++)
+    for (int check = NONE; check < SIZE_END; check++)
         if (check != WALK_END && by_check[check] < least) {
             printf("fuzz: only %llu inputs came to %s\n", (unsigned long long)by_check[check], names[check]);
             exit(1);
         }
     for (int number = 0; number <= 14; number = number == 4 ? 14 : number + 1)
         if (by_check_number[number] < least) stop("too few checks of a number");
+    for (int number = 0; number <= 6; number++)
+        if (by_size_number[number] < least) stop("too few sizes of a number");
 }
 
 int main(int arguments, char **argument) {
-    if (arguments < 5) stop("usage: fuzz trees lists walks listings");
-    wrong = arguments > 5 ? (unsigned)atoi(argument[5]) : 0;
-    if (wrong >= LAST_WRONG) return 3;                       /* the end of the row */
-    if (wrong == WALK_END || wrong == LIST_END) return 4;    /* no way to be wrong */
+    if (arguments < 7) stop("usage: fuzz trees lists sizes walks listings tables");
+    wrong = arguments > 7 ? (unsigned)atoi(argument[7]) : 0;
+    if (wrong >= LAST_WRONG) return 3;                                              /* the end of the row */
+    if (wrong == WALK_END || wrong == LIST_END || wrong == SIZE_END) return 4;      /* no way to be wrong */
     read_trees(argument[1]);
     read_lists(argument[2]);
-    size_t given = kept_count, given_lists = list_count;
-    double before = seconds();
-    fuzz_walks(strtoull(argument[3], NULL, 10));
-    double between = seconds();
-    fuzz_listings(strtoull(argument[4], NULL, 10));
-    double after = seconds();
-    if (arguments < 6) require_each(10);
+    read_sizes(argument[3]);
+    size_t given = kept_count, given_lists = list_count, given_tables = table_count;
+    double start = seconds();
+    if (!is_wrong_size()) fuzz_walks(strtoull(argument[4], NULL, 10));
+    double walked = seconds();
+    if (!is_wrong_size()) fuzz_listings(strtoull(argument[5], NULL, 10));
+    double listed = seconds();
+    if (wrong == 0 || is_wrong_size()) fuzz_sizes(strtoull(argument[6], NULL, 10));
+    double sized = seconds();
+    if (arguments < 8) require_each(10);
     printf("fuzz: walks finished: %llu, number 7: %llu, 8: %llu, 9: %llu; listings whole: %llu, number 1 to 4: %llu, 14: %llu, 15: %llu, "
            "16: %llu, 17: %llu\n", (unsigned long long)by_number[0], (unsigned long long)by_number[7], (unsigned long long)by_number[8],
            (unsigned long long)by_number[9], (unsigned long long)by_list_number[0],
            (unsigned long long)(by_list_number[1] + by_list_number[2] + by_list_number[3] + by_list_number[4]),
            (unsigned long long)by_list_number[14], (unsigned long long)by_list_number[15], (unsigned long long)by_list_number[16],
            (unsigned long long)by_list_number[17]);
-    printf("fuzz good: %llu walks and masks in %.1f s, %llu listings and as many checks in %.1f s; differences 0, faults 0; kept %zu trees over %zu given, %zu listings over %zu\n",
-           (unsigned long long)walks, between - before, (unsigned long long)listings, after - between, kept_count - given, given,
-           list_count - given_lists, given_lists);
+    printf("fuzz: sizes: %llu, number 1 to 4: %llu, 5: %llu, 6: %llu\n", (unsigned long long)by_size_number[0],
+           (unsigned long long)(by_size_number[1] + by_size_number[2] + by_size_number[3] + by_size_number[4]),
+           (unsigned long long)by_size_number[5], (unsigned long long)by_size_number[6]);
+    printf("fuzz good: %llu walks and masks in %.1f s, %llu listings and as many checks in %.1f s, %llu tables sized in %.1f s; "
+           "differences 0, faults 0; kept %zu trees over %zu given, %zu listings over %zu, %zu tables over %zu\n",
+           (unsigned long long)walks, walked - start, (unsigned long long)listings, listed - walked, (unsigned long long)sizes, sized - listed,
+           kept_count - given, given, list_count - given_lists, given_lists, table_count - given_tables, given_tables);
     return 0;
 }

@@ -101,7 +101,7 @@ def random_bytes(rng):
 
 def small_words(rng):
     """Words that are likely to be numbers of requests and small counts."""
-    words = [rng.choice([rng.randrange(14), rng.randrange(6), 0, 1, rng.getrandbits(32)]) for _ in range(rng.randrange(40))]
+    words = [rng.choice([rng.randrange(15), rng.randrange(6), 0, 1, rng.getrandbits(32)]) for _ in range(rng.randrange(40))]
     return probe.pack(words) + rng.randbytes(rng.choice([0, 0, 0, 1, 3]))
 
 
@@ -124,12 +124,13 @@ def some_question(rng):
     if rng.random() < 0.7:
         return rng.choice(QUESTIONS)
     table = rng.choice([examples.WORKED, examples.WITH_THIRD, examples.EVERY_KIND, examples.SHORT_AND_LONG])
-    return rng.choice([("lookup", table, rng.getrandbits(8)), ("generate", table, [7] * rng.randrange(40)), ("read", table)])
+    return rng.choice([("lookup", table, rng.getrandbits(8)), ("generate", table, [7] * rng.randrange(40)), ("read", table),
+                       ("measure", table)])
 
 
 def some_word(rng):
     """Numbers and counts near a limit, or that a part of a word would take for another."""
-    return rng.choice([0, 1, 5, 11, 12, 0x101, 0x10002, 0x3FFFFFFF, 0x40000001, 0x40000005, 0x7FFFFFFF, 0x80000000, 0xFFFFFFFC,
+    return rng.choice([0, 1, 5, 12, 13, 0x101, 0x10002, 0x3FFFFFFF, 0x40000001, 0x40000005, 0x7FFFFFFF, 0x80000000, 0xFFFFFFFC,
                        0xFFFFFFFF, rng.getrandbits(32), rng.randrange(20)])
 
 

@@ -1,9 +1,9 @@
 /*
- * The walk, the check and the listing of document 01, and the mask of document 02, written from these papers alone, for fuzz.c.
- * Sentences in quotes are the papers'.
+ * The walk, the check and the listing of document 01, and the mask and the size of document 02, written from these papers alone, for
+ * fuzz.c. Sentences in quotes are the papers'.
  *
  * Each check has a name, and a check is left out where its name is `without`: so the same text is the reference (NONE) and a row of
- * wrong ones, and the checks that a walk came by say how far an input got.
+ * wrong ones, and the checks that a walk came by say how far an input got. For a size the names are parts of the rule.
  */
 
 #ifndef REFERENCE_H
@@ -19,17 +19,22 @@
     X(TABLE_FIRST) X(TABLE_KIND) X(TABLE_COUNT) X(TABLE_LENGTH) X(PATTERN_OWN) X(PATTERN_VALUE) X(FIELD_PLACE) X(FIELD_OVERLAP) \
     X(COVER) X(LEFT_OVER) X(IMAGE_WIDTH) X(IMAGE_LENGTH) X(IMAGE_ODD) X(IMAGE_LONG) X(TREE_WIDTH) X(TREE_DAMAGED)             \
     X(BIT_TWICE) X(ONE_SIDE_BEGINS) X(ALL_USED) X(NAMED_STEP) X(NOTHING_STEP) X(NO_ROOM) X(LAST_HALF)
+#define SIZE_CHECKS(X)                                                                                                       \
+    X(TREE_LIMIT) X(FIT_FIRST) X(CONFLICT) X(FIRST_CONFLICT) X(DEEPEST) X(HIGHEST_ON_TIE) X(MOST_MASKS) X(HIGHEST_UNFIXED)      \
+    X(UNMATCHING_TOO)
 
 enum check {
     NONE,
 #define NAME(check) check,
     WALK_CHECKS(NAME) WALK_END,
-    LIST_CHECKS(NAME) LIST_END
+    LIST_CHECKS(NAME) LIST_END,
+    SIZE_CHECKS(NAME) SIZE_END
 #undef NAME
 };
 
 #define MOST_STEPS 200000u /* only a wrong walk, which may go round in circles, comes to it */
 #define MOST_TABLE_WORDS 16384u
+#define MOST_TREE_WORDS 16384u
 #define MOST_IMAGE_BYTES 2097152u
 
 static uint32_t word_at(const uint8_t *bytes, size_t index) {
@@ -338,6 +343,93 @@ static uint64_t reference_check(const uint32_t *words, size_t count, const uint3
     struct table table = {words, count, 0, 0, 0, 0, 0, {0}, NONE, without};
     if (!read_table(&table)) return refused_list(table.number, table.place);
     return accepts(&table, tree, tree_words, without) ? 0 : refused_list(14, 0);
+}
+
+/* ------------------------------------------------------------------------- the size of a tree */
+
+struct sizing {
+    struct table table;
+    uint32_t nodes, tests, conflicts, word, came; /* came: a bit for each part of the rule that the input came by */
+    int full;
+    uint64_t result;
+};
+
+/* Whether this part of the rule is kept. */
+static int keeps(struct sizing *sizing, enum check part) {
+    sizing->came |= (uint32_t)1 << (part - LIST_END);
+    return sizing->table.without != part;
+}
+
+/* The unfixed bits "in any pattern of an open condition of an open entry". */
+static uint32_t condition_bits(struct sizing *sizing, struct cell cell) {
+    uint32_t bits = 0;
+    for (uint32_t turn = 0; turn < sizing->table.entries; turn++) {
+        const uint32_t *entry = entry_at(&sizing->table, turn), *condition = entry + 3 + (entry[0] >> 4 & 15);
+        uint32_t left = entry_status(cell, entry) == OPEN ? entry[0] & 15 : 0;
+        for (; left > 0; left--, condition += 3 + 3 * (condition[0] & 15)) {
+            if (condition_status(cell, condition) != OPEN) continue;
+            bits |= condition[1];
+            for (uint32_t more = 1; more <= (condition[0] & 15); more++)
+                if (keeps(sizing, UNMATCHING_TOO)) bits |= condition[1 + 3 * more];
+        }
+    }
+    return bits & ~cell.fixed;
+}
+
+/* The bit that step 4 tests, 32 if there is none, because no entry is open: step 3. */
+static uint32_t tested_bit(struct sizing *sizing, struct cell cell) {
+    uint32_t masks[32] = {0}, best = 32;
+    for (uint32_t turn = 0; turn < sizing->table.entries; turn++) {
+        const uint32_t *entry = entry_at(&sizing->table, turn);
+        if (entry_status(cell, entry) != OPEN) continue;
+        for (uint32_t bit = 0; bit < 32; bit++) masks[bit] += (entry[1] & ~cell.fixed) >> bit & 1;
+    }
+    /* "The bit is the unfixed one in the opcode masks of the most open entries, highest on a tie." */
+    for (uint32_t bit = 0; bit < 32; bit++) {
+        if (masks[bit] == 0) continue;
+        if (best == 32 || masks[bit] > masks[best]) best = bit;
+        else if (masks[bit] == masks[best] ? keeps(sizing, HIGHEST_ON_TIE) : !keeps(sizing, MOST_MASKS)) best = bit;
+    }
+    /* "If no such mask has an unfixed bit, it is the highest unfixed bit in any pattern of an open condition of an open entry." */
+    uint32_t others = best == 32 ? condition_bits(sizing, cell) : 0;
+    for (uint32_t bit = 0; bit < 32; bit++)
+        if ((others >> bit & 1) != 0 && (best == 32 || keeps(sizing, HIGHEST_UNFIXED))) best = bit;
+    return best;
+}
+
+/* Counts the nodes of a cell, "zero side first", as far as they fit. */
+static void size_from(struct sizing *sizing, struct cell cell, uint32_t tests) {
+    /* Without the limit: up to what the sixteen bits of a header count. */
+    uint32_t most = sizing->nodes + 2 > MOST_TREE_WORDS && !keeps(sizing, TREE_LIMIT) ? 65536 : MOST_TREE_WORDS;
+    sizing->full |= sizing->nodes + 2 > most;
+    if (sizing->full) return;
+    sizing->nodes++;
+    int leaf = first_step(&sizing->table, cell) != NEITHER;
+    uint32_t bit = leaf ? 32 : tested_bit(sizing, cell);
+    if (bit == 32) {
+        if (tests > sizing->tests || (tests < sizing->tests && !keeps(sizing, DEEPEST))) sizing->tests = tests;
+        if (leaf) return;
+        /* "that of the first conflict cell in node order, free bits zero" */
+        if (sizing->conflicts++ == 0 || !keeps(sizing, FIRST_CONFLICT)) sizing->word = cell.bits;
+        return;
+    }
+    struct cell zero = {cell.fixed | 1u << bit, cell.bits}, one = {cell.fixed | 1u << bit, cell.bits | 1u << bit};
+    size_from(sizing, zero, tests + 1);
+    size_from(sizing, one, tests + 1);
+}
+
+/* "A tree fits when nodes + 1 is .. at most 16,384; conflict leaves count. Fit is decided before ambiguity." */
+static struct sizing reference_size(const uint32_t *words, size_t count, enum check without) {
+    struct sizing sizing = {{words, count, 0, 0, 0, 0, 0, {0}, NONE, without}, 0, 0, 0, 0, 0, 0, 0};
+    int good = read_table(&sizing.table);
+    sizing.result = refused_list(sizing.table.number, sizing.table.place);
+    if (!good) return sizing;
+    struct cell none = {0, 0};
+    size_from(&sizing, none, 0);
+    if (sizing.full && (sizing.conflicts == 0 || keeps(&sizing, FIT_FIRST))) sizing.result = refused_list(5, 0);
+    else if (sizing.conflicts > 0 && keeps(&sizing, CONFLICT)) sizing.result = refused_list(6, sizing.word);
+    else sizing.result = (uint64_t)sizing.tests << 16 | sizing.nodes;
+    return sizing;
 }
 
 /* ------------------------------------------------------------------------- the listing */

@@ -1,4 +1,5 @@
-"""Tables and questions written by hand, with the lines of docs/probe.md that document 01 asks for (masks: document 02's No. 1).
+"""Tables and questions written by hand, with the lines of docs/probe.md that document 01 asks for (masks and sizes: document 02's
+No. 1 and No. 2).
 
 Nothing here is computed by the second implementation: every number, place and mask was written out by reading the documents.
 """
@@ -492,6 +493,41 @@ TREE_EXAMPLES = [
     ("mask, a damaged third node, not on the path", mask(table("70020003 80800003 a0000000 90000100"), 1),
      "11 0 0 00000000 00000002"),
     ("mask with words after the tree", mask(PRINTED_TREE + [0xFFFFFFFF], 2), "11 0 0 00000000 00000002"),
+]
+
+# Width 3, 00- and 1-0: bit 2 is in both masks; below its zero side bit 1 is tested, below its one side bit 0.
+BITS_APART = table("10020003 20000310 00000006 00000000 30000001 20010310 00000005 00000004 30000101")
+
+
+def size(words):
+    return ("measure", words)
+
+
+# (what it shows, the question, the line): the number of nodes, and of the tests on a longest path. The trees stand above.
+SIZE_EXAMPLES = [
+    ("size of the worked table", size(WORKED), "12 0 0 00000000 27 6"),
+    ("size of the printed table", size(PRINTED), "12 0 0 00000000 3 1"),
+    ("size of 0-0 added", size(WITH_THIRD), "12 0 0 00000000 7 2"),
+    ("size of no entries, width 1", size([0x10000001]), "12 0 0 00000000 1 0"),
+    ("size of no entries, width 32", size([0x10000020]), "12 0 0 00000000 1 0"),
+    ("size, every kind once", size(EVERY_KIND), "12 0 0 00000000 5 2"),
+    ("size, a short entry and a longer one", size(SHORT_AND_LONG), "12 0 0 00000000 5 2"),
+    ("size, other bits on the two sides", size(BITS_APART), "12 0 0 00000000 7 2"),
+    # Bit 3, and below its one side bits 2 to 0 on every path. All leaves of the second name nothing.
+    ("size, eight unmatching patterns", size(EIGHT_UNMATCHING), "12 0 0 00000000 17 4"),
+    ("size, eight conditions", size(EIGHT_CONDITIONS), "12 0 0 00000000 17 4"),
+
+    # 6 with the word as in generating.
+    ("size of 0-- and --0", size(ZERO_HIGH_ZERO_LOW), "12 6 0 00000000"),
+    ("size of 0-- and -00", size(MORE_MASK_BITS), "12 6 0 00000000"),
+    ("size of twins 1-", size([0x10020002, *PRINTED[1:], *PRINTED[1:]]), "12 6 0 00000002"),
+
+    # 1 to 4 as in reading.
+    ("size of the empty table", size([]), "12 1 0 00000000"),
+    ("size of the printed table cut", size(PRINTED[:4]), "12 2 4 00000000"),
+    ("size of a bad table", size(BAD), "12 2 5 00000000"),
+    ("size, opcode value outside the mask", size(table("10010002 20050210 00000002 00000003 30000001")), "12 3 2 00000000"),
+    ("size, not covered", size(table("10010002 20050200 00000002 00000002")), "12 4 1 00000000"),
 ]
 
 # "For the words, in hexadecimal, ... it prints"

@@ -11,7 +11,8 @@ from pathlib import Path
 
 sys.path.insert(0, str(Path(__file__).resolve().parent.parent))
 
-from second import checker, checktrees, examples, image, images, selection, tables, tree, trees, walk, wrong_masks
+from second import checker, checktrees, examples, image, images, measure, selection, tables, tree, trees, walk, wrong_masks, \
+    wrong_sizes
 from second.lines import line_of, mktree_text, read_line
 from second.reader import Refusal, Table, read
 
@@ -37,7 +38,7 @@ def wrong_examples():
     """The names of the hand-written examples that the second implementation doesn't meet."""
     wrong = [name for name, words, line in examples.READ_EXAMPLES if read_line(words) != line]
     asked = examples.SELECTION_EXAMPLES + examples.TREE_EXAMPLES + examples.CHECK_EXAMPLES + examples.IMAGE_EXAMPLES \
-        + examples.STEP_MASK_EXAMPLES
+        + examples.STEP_MASK_EXAMPLES + examples.SIZE_EXAMPLES
     asked = asked + [("the bit of the most masks", ("generate", MOST_MASKS, [0] * 6), MOST_MASKS_LINE)]
     wrong += [name for name, question, line in asked if line_or_fault(question) != line]
     printed = b"".join(word.to_bytes(4, "little") for word in examples.PRINTED)
@@ -51,7 +52,8 @@ def check_examples():
     if wrong:
         fail(f"example: {wrong[0]}")
     return sum(len(some) for some in (examples.READ_EXAMPLES, examples.SELECTION_EXAMPLES, examples.TREE_EXAMPLES,
-                                      examples.CHECK_EXAMPLES, examples.IMAGE_EXAMPLES, examples.STEP_MASK_EXAMPLES)) + 1
+                                      examples.CHECK_EXAMPLES, examples.IMAGE_EXAMPLES, examples.STEP_MASK_EXAMPLES,
+                                      examples.SIZE_EXAMPLES)) + 1
 
 
 # Document 01's "Mistakes to exclude", and a few neighbours: with each of them made, an example must fail.
@@ -236,7 +238,8 @@ HOMES = {selection: ("satisfied", "more_specific", "select"), tree: ("entry_stat
          "conflict_word"), walk: ("damaged", "header_good", "packed", "walk", "mask_bytes"),
          checker: ("widths_equal", "none_damaged", "one_sides_begin_right", "all_used", "no_bit_twice", "named_right",
                    "nothing_right", "first_step"),
-         image: ("word_at", "halfwords", "item_at", "no_image_table", "no_image", "refusal_before_items", "mask_at")}
+         image: ("word_at", "halfwords", "item_at", "no_image_table", "no_image", "refusal_before_items", "mask_at"),
+         measure: ("measure",)}
 RIGHT = {name: getattr(home, name) for home, names in HOMES.items() for name in names}
 MISTAKES = [("satisfied", one_missed_is_enough, "0x00 A"),
             ("satisfied", unmatching_forgotten, "0x00 A"),
@@ -284,7 +287,15 @@ MISTAKES = [("satisfied", one_missed_is_enough, "0x00 A"),
             ("mask_bytes", wrong_masks.number_for_mask, "mask of a cut tree"),
             ("mask_at", wrong_masks.word_for_mask, "a step at 1"),
             ("mask_at", wrong_masks.nothing_has_none, "a step at 3"),
-            ("mask_at", wrong_masks.missing_half_untested, "a step at a cut entry, bit 0 tested")]
+            ("mask_at", wrong_masks.missing_half_untested, "a step at a cut entry, bit 0 tested"),
+            # compare_measure.py has those of the limit
+            ("measure", wrong_sizes.zero_sides_alone, "size, every kind once"),
+            ("measure", wrong_sizes.one_sides_alone, "size of the worked table"),
+            ("measure", wrong_sizes.leaf_counted, "size of the printed table"),
+            ("measure", wrong_sizes.nothing_left_out, "size, eight conditions"),
+            ("measure", wrong_sizes.bits_of_all_paths, "size, other bits on the two sides"),
+            ("measure", wrong_sizes.words_for_nodes, "size of the printed table"),
+            ("measure", wrong_sizes.word_left_out, "size of twins 1-")]
 
 
 def forget():
@@ -520,6 +531,15 @@ def check_buffers(words, nodes, conflict, tally):
         tally[f"outcome {outcome.number}" if isinstance(outcome, Refusal) else "outcome tree"] += 1
 
 
+def check_size(words, nodes, conflict, most, every):
+    """Sizing against the nodes, and against the most tests of a word that was asked; with every word that is the greatest number."""
+    size = measure.measure(words)
+    if not every and not isinstance(size, Refusal):
+        most = max(most, size[1])
+    if size != (Refusal(6, word=conflict) if conflict is not None else (nodes, most)):
+        fail(f"the size is {size}: {nodes} nodes, a word has {most} tests, conflict word {conflict}: {hexadecimal(words)}")
+
+
 def check_tree_of(words, tally, asked):
     """A table's tree against its lookups: on every word that is asked, or on every word of the width (None)."""
     table = read(words)
@@ -531,7 +551,7 @@ def check_tree_of(words, tally, asked):
     conflict = tree.conflict_word(nodes)
     check_buffers(words, len(nodes), None if conflict is None else Refusal(6, word=conflict), tally)
     written = tree.written(table.width, nodes)
-    ambiguous = False
+    ambiguous, most = False, 0
     for word in range(1 << table.width) if asked is None else asked:
         wanted = selection.select(table, word)
         word_bits = selection.ones(word)
@@ -545,7 +565,9 @@ def check_tree_of(words, tally, asked):
             ambiguous = True
         elif walk.walk(written, word) != walk.Walked(wanted, len(tests), sum(1 << node.bit for node in tests)):
             fail(f"word {word:x} is {wanted}, walked: {walk.walk(written, word)}: {hexadecimal(words)}")
+        most = max(most, len(tests))
         tally["walked words"] += 1
+    check_size(words, len(nodes), conflict, most, asked is None)
     if conflict is not None and selection.select(table, conflict) != selection.AMBIGUOUS:
         fail(f"word {conflict:x} isn't ambiguous: {hexadecimal(words)}")
     if asked is None and ambiguous != (conflict is not None):
@@ -579,9 +601,12 @@ def check_trees(rng, tally):
                 fail(f"full_tree_plan of {depth} has {len(nodes)} nodes")
     for plan, length in ((tables.full_tree_plan(rng, 32, 13), 16384), (tables.full_tree_plan(rng, 32, 13, True), Refusal(5)),
                          (tables.full_tree_plan(rng, 32, 32), Refusal(5)), (tables.full_tree_plan(rng, 32, 13, twice=True), Refusal(6))):
-        outcome, _ = tree.generate(tables.lay_out(plan).words, [1] * 20000)
+        words = tables.lay_out(plan).words
+        outcome, _ = tree.generate(words, [1] * 20000)
         if outcome != length:
             fail(f"a tree at the limit gives {outcome} and not {length}")
+        if measure.measure(words) != (length if isinstance(length, Refusal) else (length - 1, 13)):
+            fail(f"a tree at the limit has the size {measure.measure(words)}, generating gives {length}")
     for what, least in (("trees", 350), ("ambiguous trees", 60), ("outcome 5", 700), ("outcome 6", 100), ("outcome tree", 400)):
         if tally[what] < least:
             fail(f"only {tally[what]} of {what}")

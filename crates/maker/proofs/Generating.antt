@@ -1,6 +1,6 @@
 -- What generating and sizing answer, and what generating leaves, from what the maker says of the whole tree. Assumes nothing.
 use mathlib.Core.Path.{_≡_, refl, sym, ap, ap₂, _∙_}
-use mathlib.Core.Bool.{Bool, true, false}
+use mathlib.Core.Bool.{true, false}
 use mathlib.Core.List.{List, _∷_, _++_}
 use mathlib.Core.Option.{Option, none, some}
 use Prim.Native.Nat.{ℕ, suc, _+_, _-_, _≤_, _<_, min}
@@ -17,11 +17,11 @@ use Rattle.table.specs.Check.{readTable}
 use Rattle.table.specs.Ready.{Ready}
 use Rattle.table.proofs.Views.{ready-read}
 use Rattle.cell.specs.Cell.{start}
-use Rattle.tree.specs.Tree.{Tree, tree, below, size, depth, conflict}
+use Rattle.tree.specs.Tree.{Tree, tree, below, size, conflict}
 use Rattle.tree.specs.Written.{headerWord, nodes, written}
-use Rattle.tree.specs.Generate.{tableWith, fits, judged, generateOf, leftBy, bufferOf, Measure, measured, surveyOf, measureOf}
+use Rattle.tree.specs.Generate.{tableWith, fits, judged, generateOf, leftBy, bufferOf, measured, surveyOf, measureOf}
 use Rattle.tree.proofs.Sizes.{length-nodes}
-use Rattle.maker.specs.Answers.{saidGenerate, saidMeasure, Generates}
+use Rattle.maker.specs.Answers.{saidGenerate, Generates}
 use Rattle.maker.specs.Parts.{WritesTree, firstOf, Written, Making}
 use Rattle.maker.specs.declared.First.{First}
 use Rattle.maker.specs.declared.First.the-variants.{Clean, Clash}
@@ -29,7 +29,6 @@ use Rattle.maker.specs.declared.Made.{Made}
 use Rattle.maker.specs.declared.Made.the-variants.{Full, Wrote}
 use Rattle.maker.specs.declared.Generated.{Generated}
 use Rattle.maker.specs.declared.Generated.the-variants as generated
-use Rattle.maker.specs.declared.Measured.{Measured}
 
 -- the first conflict, back from the code's answer
 first-clean : (o : Option ℕ) → Clean ≡ firstOf o → o ≡ none

@@ -1,5 +1,5 @@
 -- What the makers say of a cell's tree, from what their calls say. Assumes nothing.
-use mathlib.Core.Path.{_≡_, refl}
+use mathlib.Core.Path.{_≡_}
 use mathlib.Core.List.{List}
 use Prim.Native.Nat.{ℕ, suc, _+_, _≤_, _<_, _^_, max}
 use native.Mathlib.Omega.{arith}

@@ -17,9 +17,9 @@ use lib.ListN.{length, take, drop}
 use lib.Seq.{take-at}
 use Rattle.words.specs.Tests.{distinct}
 use Rattle.words.specs.Words.{word}
-use Rattle.words.proofs.Logic.{cases, and-r, options}
+use Rattle.words.proofs.Logic.{and-r, options}
 use Rattle.words.proofs.Outcomes.{not-refused}
-use Rattle.words.specs.Outcome.{Outcome, result, refused}
+use Rattle.words.specs.Outcome.{result, refused}
 use Rattle.table.specs.Table.{Entry, Table, countOf, tableOf}
 use Rattle.table.specs.Check.{Check, fine, fault, tableCheck, reading, readTable}
 use Rattle.table.specs.Lawful.{goodTable}

@@ -7,7 +7,7 @@ use mathlib.Core.Bool.{true, false, not, false≢true}
 use borrow.Author.Tests.{eqb-true}
 use mathlib.Core.List.{List, [], _∷_}
 use mathlib.Core.Option.{Option, none, some, orElse}
-use lib.Bits.{bitAnd, bitOr, and-comm, or-lt, and-zero-r, or-zero-r}
+use lib.Bits.{bitOr, and-comm, or-lt, and-zero-r, or-zero-r}
 use lib.Dec.{eqb}
 use lib.Pow.{pow-lt, pow-pos}
 use lib.ListN.{length}

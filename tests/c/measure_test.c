@@ -1,0 +1,162 @@
+/*
+ * Compares kilnumber_measure with the second implementation's answers. Usage: measure_test file, which make_sizes.py writes.
+ * It prints one line with the counts; at the first difference it prints both results and exits with status 1.
+ *
+ * With -DSTAND_IN there is no library: kilnumber_measure then gives back what the file has, and with -DWRONG=1 and so on that answer
+ * wrong in one way, to show that the test notices.
+ *
+ * A table lies directly before a page that can't be touched, and then directly after one. It must be the same afterwards.
+ */
+
+#define _DEFAULT_SOURCE
+#include <signal.h>
+#include <stdio.h>
+#include <stdlib.h>
+#include <string.h>
+#include <sys/mman.h>
+#include <unistd.h>
+
+#include "kilnumber.h"
+
+#define MOST_WORDS 16400u
+#define MOST_NODES 16383u
+
+static void stop(const char *why) {
+    printf("measure_test: %s\n", why);
+    exit(2);
+}
+
+/* The answer for a table; and of the nodes within the limit what wrong stand-ins look at (make_sizes.py, made_of). */
+struct size {
+    uint64_t answer;
+    uint32_t nodes, tests, first_tests, last_tests, is_clash, clash;
+};
+
+/* ------------------------------------------------------------------------- stand-in for the library */
+
+#ifdef STAND_IN
+#ifndef WRONG
+#define WRONG 0
+#endif
+static struct size standing;
+
+uint64_t kilnumber_measure(const uint32_t *table, size_t table_words) {
+    struct size is = standing;
+    uint64_t number = is.answer >> 32, low = is.answer & 0xffffffff;
+    if (WRONG == 1 && number == 0) return (uint64_t)is.nodes << 16 | is.tests;              /* 1: tests below, nodes above */
+    if (WRONG == 2 && number == 0) return low + 1;                                          /* 2: words, not nodes */
+    if (WRONG == 3 && number == 0) return (uint64_t)is.first_tests << 16 | is.nodes;        /* 3: tests of the zero sides */
+    if (WRONG == 4 && number == 0) return (uint64_t)is.last_tests << 16 | is.nodes;         /* 4: tests of the one sides */
+    if (WRONG == 5 && number == 0) return low + 65536;                                      /* 5: a leaf counts as a test */
+    if (WRONG == 6) return number << 40 | low;                                              /* 6: the number in bits 47-40 */
+    if (WRONG == 7 && number == 6) return number << 32;                                     /* 7: without the word */
+    if (WRONG == 8 && number >= 1 && number <= 4) return number << 32;                      /* 8: without the place */
+    if (WRONG == 9 && is.is_clash) return (uint64_t)6 << 32 | is.clash;                     /* 9: 6 before 5 */
+    if (WRONG == 10 && is.nodes >= MOST_NODES) return (uint64_t)5 << 32;                    /* 10: the limit is one lower */
+    if (WRONG == 11 && number == 6) return (uint64_t)is.tests << 16 | is.nodes;             /* 11: 6 is not looked for */
+    if (WRONG == 12 && number >= 1 && number <= 4) return number << 32 | low << 48;         /* 12: the place where a walk has it */
+    if (WRONG == 13 && number == 5) return number << 32 | is.nodes;                         /* 13: nodes with 5 */
+    if (WRONG == 14 && number == 5) return (uint64_t)is.tests << 16 | is.nodes;             /* 14: 5 is not looked for */
+    if (WRONG == 15 && number == 6) return (uint64_t)5 << 32;                               /* 15: 6 is taken for 5 */
+    if (WRONG == 16 && table_words > 0) ((volatile uint32_t *)(uintptr_t)table)[table_words - 1] ^= 1; /* 16: the table is written */
+    if (WRONG == 17 && ((const volatile uint32_t *)table)[table_words] == 0) return 0;      /* 17: a word after it is read */
+    if (WRONG == 18 && ((const volatile uint32_t *)table)[-1] == 0) return 0;               /* 18: a word before it is read */
+    return is.answer;
+}
+#endif
+
+/* ------------------------------------------------------------------------- what is lent */
+
+static uint8_t *start, *guard; /* the room between two pages that can't be touched */
+
+static void make_room(void) {
+    size_t page = (size_t)sysconf(_SC_PAGESIZE), room = (4u * MOST_WORDS + page - 1) / page * page;
+    uint8_t *from = (uint8_t *)mmap(NULL, room + 2 * page, PROT_READ | PROT_WRITE, MAP_PRIVATE | MAP_ANONYMOUS, -1, 0);
+    if (from == MAP_FAILED || mprotect(from, page, PROT_NONE) != 0 || mprotect(from + page + room, page, PROT_NONE) != 0) stop("no memory");
+    start = from + page;
+    guard = start + room;
+}
+
+static void touched(int number) {
+    static const char text[] = "difference: memory outside the table is touched\n";
+    (void)number;
+    _exit(write(STDOUT_FILENO, text, sizeof text - 1) < 0 ? 2 : 1);
+}
+
+/* ------------------------------------------------------------------------- the comparison */
+
+static unsigned by_number[7], at_limit, over_and_clash;
+
+static void compare(const uint32_t *table, size_t table_words, uint64_t expected, int at_start) {
+    uint32_t *lent = (uint32_t *)(void *)(at_start ? start : guard - 4 * table_words);
+    if (table_words > 0) memcpy(lent, table, 4 * table_words);
+    uint64_t seen = kilnumber_measure(lent, table_words);
+    uint32_t number = (uint32_t)(expected >> 32), low = (uint32_t)expected;
+    int parts_right = kilnumber_number(seen) == number;
+    if (number == 0) parts_right &= kilnumber_nodes(seen) == low % 65536 && kilnumber_tests(seen) == low / 65536;
+    if (number == 6) parts_right &= kilnumber_word(seen) == low;
+    if (number >= 1 && number <= 4) parts_right &= kilnumber_list_place(seen) == low;
+    if (seen != expected || !parts_right) {
+        printf("difference: %zu table words: expected %016llx, seen %016llx\n", table_words, (unsigned long long)expected,
+               (unsigned long long)seen);
+        exit(1);
+    }
+    if (table_words > 0 && memcmp(lent, table, 4 * table_words) != 0) {
+        printf("difference: %zu table words, and they have changed\n", table_words);
+        exit(1);
+    }
+}
+
+static void try_table(const uint32_t *table, size_t table_words, struct size size) {
+#ifdef STAND_IN
+    standing = size;
+#endif
+    compare(table, table_words, size.answer, 0);
+    compare(table, table_words, size.answer, 1);
+    by_number[size.answer >> 32]++;
+    at_limit += size.answer >> 32 == 0 && size.nodes == MOST_NODES;
+    over_and_clash += size.answer >> 32 == 5 && size.is_clash;
+}
+
+static uint32_t *read_words(const char *name, size_t *count) {
+    FILE *file = fopen(name, "rb");
+    if (file == NULL || fseek(file, 0, SEEK_END) != 0) stop(name);
+    long length = ftell(file);
+    if (length < 4 || length % 4 != 0) stop("not whole words");
+    rewind(file);
+    uint8_t *bytes = malloc((size_t)length);
+    uint32_t *words = malloc((size_t)length);
+    if (bytes == NULL || words == NULL || fread(bytes, 1, (size_t)length, file) != (size_t)length) stop(name);
+    *count = (size_t)length / 4;
+    kilnumber_words(bytes, *count, words);
+    free(bytes);
+    fclose(file);
+    return words;
+}
+
+int main(int arguments, char **argument) {
+    if (arguments != 2) stop("usage: measure_test file");
+    size_t count, at = 1;
+    uint32_t *words = read_words(argument[1], &count);
+    make_room();
+    if (signal(SIGSEGV, touched) == SIG_ERR) stop("no handler");
+    for (uint32_t turn = 0; turn < words[0]; turn++) {
+        if (at + 9 > count) stop("the file is not whole");
+        const uint32_t *from = words + at;
+        struct size size = {(uint64_t)from[1] << 32 | from[0], from[2], from[3], from[4], from[5], from[6], from[7]};
+        uint32_t table_words = from[8];
+        at += 9 + (size_t)table_words;
+        if (from[1] > 6 || table_words > MOST_WORDS || at > count) stop("the file is not whole");
+        try_table(from + 9, table_words, size);
+    }
+    if (at != count) stop("the file is not whole");
+    if (words[0] < 1500) stop("too few tables");
+    printf("measure_test good: %u tables;", (unsigned)words[0]);
+    for (size_t number = 0; number <= 6; number++) {
+        printf(" number %zu: %u%s", number, by_number[number], number < 6 ? "," : "\n");
+        if (by_number[number] < (number == 5 ? 5 : 50)) stop("too few of a number");
+    }
+    if (at_limit < 2 || over_and_clash < 2) stop("too few at the limit");
+    free(words);
+    return 0;
+}
