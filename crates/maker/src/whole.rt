@@ -66,12 +66,13 @@ pub fn write_tree(
     }
 }
 
-// The size of the tree of a table without fault, within a room of so many words. No memory is lent for them, and none is kept.
+// The size of the tree of a table without fault, within a room of so many words.
 pub fn survey(table: &[u32], places: &[u32; 256], count: usize, width: u32, room: usize) -> Measured
     requires { ⌜ Ready (now table) (now places) width count ⌝ }
     ensures { λ r. ⌜ saidMeasure r ≡ surveyOf (result (tableWith (entriesAt (now (table .entry)) count 1) width)) room ⌝ }
 {
     let limit = words::lesser(room, LIMIT);
+    // nodes have indices from 1 on, so none is kept
     let mut none = [0u32; 1];
     let made = nodes::make_tree(table, places, count, width, 0, 0, &mut none, 1, limit);
     match made {
