@@ -17,12 +17,10 @@
 
 #include "kilnumber.h"
 
-#define MOST_WORDS 16400u
+#define TEST "check_test"
+#include "words_file.h"
 
-static void stop(const char *why) {
-    printf("check_test: %s\n", why);
-    exit(2);
-}
+#define MOST_WORDS 16400u
 
 /* ------------------------------------------------------------------------- stand-in for the library */
 
@@ -74,22 +72,6 @@ static void compare(const uint32_t *table, size_t table_words, const uint32_t *t
         exit(1);
     }
     by_number[number]++;
-}
-
-static uint32_t *read_words(const char *name, size_t *count) {
-    FILE *file = fopen(name, "rb");
-    if (file == NULL || fseek(file, 0, SEEK_END) != 0) stop(name);
-    long length = ftell(file);
-    if (length < 4 || length % 4 != 0) stop("not whole words");
-    rewind(file);
-    uint8_t *bytes = malloc((size_t)length);
-    uint32_t *words = malloc((size_t)length);
-    if (bytes == NULL || words == NULL || fread(bytes, 1, (size_t)length, file) != (size_t)length) stop(name);
-    *count = (size_t)length / 4;
-    kilnumber_words(bytes, *count, words);
-    free(bytes);
-    fclose(file);
-    return words;
 }
 
 int main(int arguments, char **argument) {

@@ -18,13 +18,11 @@
 
 #include "kilnumber.h"
 
+#define TEST "measure_test"
+#include "words_file.h"
+
 #define MOST_WORDS 16400u
 #define MOST_NODES 16383u
-
-static void stop(const char *why) {
-    printf("measure_test: %s\n", why);
-    exit(2);
-}
 
 /* The answer for a table; and of the nodes within the limit what wrong stand-ins look at (make_sizes.py, made_of). */
 struct size {
@@ -116,22 +114,6 @@ static void try_table(const uint32_t *table, size_t table_words, struct size siz
     by_number[size.answer >> 32]++;
     at_limit += size.answer >> 32 == 0 && size.nodes == MOST_NODES;
     over_and_clash += size.answer >> 32 == 5 && size.is_clash;
-}
-
-static uint32_t *read_words(const char *name, size_t *count) {
-    FILE *file = fopen(name, "rb");
-    if (file == NULL || fseek(file, 0, SEEK_END) != 0) stop(name);
-    long length = ftell(file);
-    if (length < 4 || length % 4 != 0) stop("not whole words");
-    rewind(file);
-    uint8_t *bytes = malloc((size_t)length);
-    uint32_t *words = malloc((size_t)length);
-    if (bytes == NULL || words == NULL || fread(bytes, 1, (size_t)length, file) != (size_t)length) stop(name);
-    *count = (size_t)length / 4;
-    kilnumber_words(bytes, *count, words);
-    free(bytes);
-    fclose(file);
-    return words;
 }
 
 int main(int arguments, char **argument) {

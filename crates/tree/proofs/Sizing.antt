@@ -2,6 +2,7 @@
 --   `maker::measure` answers `measureOf (readTable ws)`; `maker::generate` answers `generateOf (readTable ws) (length out)` and leaves
 --   `bufferOf (readTable ws) out`; `walker::walk` answers `walkOf words w`.
 --     sized-as-generated, refused-alike, faulty-alike     sizing says what generating within the tree limit says
+--     generated-sized     every table that generates into some buffer has a size
 --     lend-exactly     the words to lend
 --     none-deeper, some-deepest     the greatest number of tests
 --     small     both numbers have room in 16 bits
@@ -13,7 +14,9 @@ use mathlib.Core.Logic.{_↔_}
 use mathlib.Core.List.{List, [], _++_}
 use mathlib.Core.Option.{Option, none, some}
 use lib.ListN.{length, take}
+use lib.Dec.{leb}
 use borrow.Author.Tests.{leb-true, le-leb}
+use Rattle.words.specs.Tests.{_and_}
 use Rattle.words.specs.Outcome.{Outcome, result, faulty, refused}
 use Rattle.words.proofs.Logic.{and-i, and-l, and-r, isFalse}
 use Rattle.table.specs.Table.{Table}
@@ -68,6 +71,17 @@ refused-alike ws n p w = (λ e. sized-as-generated ws ∙ ap counted e, λ e. co
 
 pub faulty-alike : (ws : List ℕ) (n p : ℕ) → (measureOf (readTable ws) ≡ faulty n p) ↔ (generateOf (readTable ws) 16384 ≡ faulty n p)
 faulty-alike ws n p = (λ e. sized-as-generated ws ∙ ap counted e, λ e. counted-faulty _ n p (sym (sized-as-generated ws) ∙ e))
+
+-- what generates into a buffer of any length has a size, and that number of nodes: with `lend-exactly`, sizing answers exactly where
+-- generating into some buffer succeeds
+pub generated-sized : (ws : List ℕ) (t : Table) → readTable ws ≡ result t → (room n : ℕ) → generateOf (readTable ws) room ≡ result n
+    → (m : Measure) × (measureOf (readTable ws) ≡ result m) × (m .nodes + 1 ≡ n)
+unfolding generateOf measureOf surveyOf judged fits
+generated-sized ws t reads room n e =
+    let g : Tree = tree (t .entries) (t .width) in
+    let j = judged-result (leb (size g + 1) room and leb (size g + 1) 16384) (conflict start g) (size g + 1) n (rw reads at e) in
+    let within : leb (size g + 1) 16384 and leb (size g + 1) 16384 ≡ true = and-i (and-r _ (j .0)) (and-r _ (j .0)) in
+    (measured g, rw (reads, within, j .1), j .2)
 
 -- ---- a table that is sized
 
