@@ -2,7 +2,7 @@
  * mktree in plain C: the same algorithm, the same input, the same lines. A measure for how long generating takes.
  *
  * Usage: generate < table. As the proved program it looks at all entries in each cell, counts the votes of each bit, and writes a
- * test once its zero side is made. Sentences in quotes are document 01's.
+ * test once its zero side is made. Sentences in quotes are document 01's; what is said of cycles is document 02's.
  *
  *   gcc -std=c11 -O2 bench/generate.c -o generate
  *
@@ -21,13 +21,14 @@
 #define MOST_BYTES 65536u
 #define MOST_WORDS 16384u
 #define MOST_ENTRIES 256u
+#define MOST_CYCLES 65535u
 #define MOST_LINE 16u /* "16383 80000000" and a newline */
 
 enum status { DEAD, SURE, OPEN };
 
 static uint32_t table[MOST_WORDS], places[MOST_ENTRIES], tree[MOST_WORDS];
 static size_t table_words;
-static uint32_t width, entries;
+static uint32_t width, entries, cycles_words; /* the last: 1 in a table of kind 6, 0 in one of kind 1 */
 static int clash_seen;
 static uint32_t clash_word;
 
@@ -85,6 +86,11 @@ static size_t read_entry(size_t at) {
     if (head >> 28 != 2 || length < 1 || length > width || fields > 8 || conditions > 8) print_refusal(2, at, 0);
     uint32_t own = span(width - length, length);
     at = read_pattern(at + 1, own);
+    if (cycles_words > 0) {
+        need(at);
+        if (table[at] > MOST_CYCLES) print_refusal(2, at, 0);
+        at++;
+    }
     uint32_t covered = table[place + 1];
     for (uint32_t turn = 0; turn < fields; turn++) at = read_field(at, own, &covered);
     if (covered != own) print_refusal(4, place, 0);
@@ -96,7 +102,8 @@ static void read_table(void) {
     if (table_words == 0) print_refusal(1, 0, 0);
     entries = table[0] >> 16 & 0xfff;
     width = table[0] & 0xff;
-    if (table[0] >> 28 != 1 || (table[0] >> 8 & 0xff) != 0 || entries > MOST_ENTRIES || width < 1 || width > 32)
+    cycles_words = table[0] >> 28 == 6;
+    if ((table[0] >> 28 != 1 && cycles_words == 0) || (table[0] >> 8 & 0xff) != 0 || entries > MOST_ENTRIES || width < 1 || width > 32)
         print_refusal(1, 0, 0);
     size_t at = 1;
     for (uint32_t entry = 0; entry < entries; entry++) {
@@ -132,7 +139,10 @@ static int fails(const uint32_t *condition, uint32_t fixed, uint32_t bits) {
     return 0;
 }
 
-static inline const uint32_t *first_condition(const uint32_t *entry) { return entry + 3 + (entry[0] >> 4 & 15); }
+static inline const uint32_t *first_condition(const uint32_t *entry) {
+    uint32_t before = WRONG == 4 ? 3 : 3 + cycles_words; /* 4: a field is taken for a condition where there are cycles */
+    return entry + before + (entry[0] >> 4 & 15);
+}
 static inline const uint32_t *next_condition(const uint32_t *condition) { return condition + 3 + 3 * (condition[0] & 15); }
 
 static enum status status_of(const uint32_t *entry, uint32_t fixed, uint32_t bits) {

@@ -1,16 +1,21 @@
 """Times mktree and the same algorithm in C (generate.c) as processes, on the tables of tests/hardest.py and some more. On the same tables
-sizing against generating into 16,384 words, both as requests of probe.
+sizing against generating into 16,384 words, both as requests of probe; and mktree on a table of kind 6 against the same without cycles.
 
-Usage: generate.py mktree program probe directory [compare | instructions]. First the two must print the same bytes for each table, and
-the size must be that of the tree, or the same refusal; with `compare` that is all. From each time that of a table without entries is
-subtracted: starting a process, and printing what it prints anyway. With `instructions` valgrind counts them instead, which no load of the
-machine changes.
+Usage: generate.py mktree program probe directory [compare | instructions]. First the two must print the same bytes for each table and for its
+twin with cycles, and the size must be that of the tree, or the same refusal; with `compare` that is all. From each time that of a table
+without entries is subtracted: starting a process, and printing what it prints anyway. With `instructions` valgrind counts them instead, which
+no load of the machine changes.
+
+With MKTREE_BEFORE=path in the environment an older mktree is run too, on the tables of kind 1, in the same turns.
 """
 
+import functools
+import os
 import random
 import re
 import subprocess
 import sys
+from dataclasses import dataclass
 from pathlib import Path
 from statistics import median
 
@@ -21,7 +26,7 @@ import mktree
 import running
 from probe import pack, request_bytes
 from programs import load, take_turns
-from second import examples, tables
+from second import examples, tables, twins
 
 REPEATS = 15
 LEAST_MS = 0.4              # what takes C less is compared but gives no ratio: the start of a process varies too much
@@ -45,27 +50,61 @@ def cases():
         yield name, tables.lay_out(plan).words
 
 
-def write_table(directory, name, words):
-    """The file of a table, and beside it those of the requests to size its tree and to make it."""
-    file = directory / f"{name}.table"
-    file.write_bytes(pack(words))
-    sizing(file).write_bytes(request_bytes(("measure", words)))
-    making(file).write_bytes(request_bytes(("generate", words, [0] * 16384)))
-    return file
+def with_room(words):
+    """The table; without its first entries where that much must go to make room for the cycles of the others."""
+    heads = [*(head for head, _ in twins.spans(words)), len(words)]
+    entries, gone = len(heads) - 1, 0
+    while 1 + len(words) - heads[gone] + entries - gone > tables.MOST_WORDS:
+        gone += 1
+    return [words[0] - (gone << 16), *words[heads[gone]:]]
 
 
-def sizing(file):
-    return file.with_suffix(".sizing")
+@dataclass(frozen=True)
+class Case:
+    """A table's name and its files: the table, of kind 1; the requests to size its tree and to make it; the table with room for cycles,
+    mostly the same one; and that one's twin with cycles."""
+    name: str
+    table: Path
+    sizing: Path
+    making: Path
+    roomy: Path
+    twin: Path
 
 
-def making(file):
-    return file.with_suffix(".making")
+def write_case(directory, number, name, words):
+    def written(suffix, data):
+        file = directory / f"{number}.{suffix}"
+        file.write_bytes(data)
+        return file
+
+    table, roomy = written("table", pack(words)), with_room(words)
+    return Case(name, table, written("sizing", request_bytes(("measure", words))),
+                written("making", request_bytes(("generate", words, [0] * 16384))),
+                table if roomy == words else written("roomy", pack(roomy)),
+                written("twin", pack(twins.twin_of(random.Random(number), roomy))))
 
 
-def write_tables(directory):
-    """(name, file) for each table, and the file of the table without entries."""
-    files = [(name, write_table(directory, number, words)) for number, (name, words) in enumerate(cases())]
-    return files, write_table(directory, "empty", NO_ENTRIES)
+def write_cases(directory):
+    """The case of the table without entries, then the others."""
+    return [write_case(directory, number, name, words) for number, (name, words) in enumerate([("no entries", NO_ENTRIES), *cases()])]
+
+
+@dataclass(frozen=True)
+class Programs:
+    mktree: str
+    in_c: str
+    probe: str
+    before: str     # an older mktree, or None
+
+
+def comparisons(programs, case):
+    """What is set against what: the two names, and a run for each, which is a program and its file."""
+    pairs = {("mktree", "C"): ((programs.mktree, case.table), (programs.in_c, case.table)),
+             ("sized", "made"): ((programs.probe, case.sizing), (programs.probe, case.making)),
+             ("kind 6", "kind 1"): ((programs.mktree, case.twin), (programs.mktree, case.roomy))}
+    if programs.before:
+        pairs["now", "before"] = (programs.mktree, case.table), (programs.before, case.table)
+    return pairs
 
 
 def sized_as(text):
@@ -76,20 +115,25 @@ def sized_as(text):
     return f"12 0 0 00000000 {int(words[1], 16) & 0xFFFF} "
 
 
-def compare(program, other, probe, files):
-    for name, file in files:
-        data = file.read_bytes()
-        text = mktree.text_of(program, data)
-        mktree.stop_at_difference(name, data, text, mktree.text_of(other, data))
-        size = running.output_of(probe, sizing(file).read_bytes()).decode()
+def require_same_lines(case, file, programs):
+    """All of them print the same for the file; that text."""
+    data = file.read_bytes()
+    text = mktree.text_of(programs[0], data)
+    for other in programs[1:]:
+        mktree.stop_at_difference(f"{case.name}, {file.suffix[1:]}, {other}", data, text, mktree.text_of(other, data))
+    return text
+
+
+def compare(programs, made):
+    older = [programs.before] if programs.before else []
+    for case in made:
+        text = require_same_lines(case, case.table, [programs.mktree, programs.in_c, *older])
+        roomy, twin = (require_same_lines(case, file, [programs.mktree, programs.in_c]) for file in (case.roomy, case.twin))
+        mktree.stop_at_difference(f"{case.name}, with cycles and without", case.twin.read_bytes(), roomy, twin)
+        size = running.output_of(programs.probe, case.sizing.read_bytes()).decode()
         if not size.startswith(sized_as(text)):
-            sys.exit(f"{name}: probe sizes it {size!r}, and mktree's lines begin {text[:40]!r}")
-    print(f"generate: the same lines for {len(files)} tables, and the same sizes")
-
-
-def runs_of(program, other, probe, file):
-    """Of a table: mktree, C, sizing and generating by probe."""
-    return (program, file), (other, file), (probe, sizing(file)), (probe, making(file))
+            sys.exit(f"{case.name}: probe sizes it {size!r}, and mktree's lines begin {text[:40]!r}")
+    print(f"generate: the same lines for {len(made)} tables and their twins with cycles, and the same sizes")
 
 
 def ratio_text(proved, in_c, starts):
@@ -102,25 +146,28 @@ def ratio_text(proved, in_c, starts):
     return ratio, f"ratio {ratio:5.2f}; of turns {turns[0]:5.2f} {median(turns):5.2f} {turns[-1]:5.2f}"
 
 
-def measure(program, other, probe, files, empty):
+def measure(programs, made):
     print(f"load before: {load()}; {REPEATS} turns; ms by the clock: best, median, worst; ratios are of processor time, less the start")
-    runs = [run for _, file in [("", empty), *files] for run in runs_of(program, other, probe, file)]
-    times = take_turns(runs, REPEATS)
-    for pair, names in ((0, ("mktree", "C")), (2, ("sized", "made"))):
-        tell(["no entries", *(name for name, _ in files)], times[pair::4], times[pair + 1::4], names)
+    runs = list(dict.fromkeys(run for case in made for pair in comparisons(programs, case).values() for run in pair))
+    times = dict(zip(runs, take_turns(runs, REPEATS), strict=True))
+    for names in comparisons(programs, made[0]):
+        tell(names, made, [[times[run] for run in comparisons(programs, case)[names]] for case in made])
     print(f"load after: {load()}")
 
 
-def tell(tables_of, ours, theirs, names):
-    """A line for each table, and the largest ratio; the first table is the one without entries."""
-    starts, worst = (ours[0], theirs[0]), 0
-    for name, one, two in zip(tables_of, ours, theirs, strict=True):
-        ratio, said = ratio_text(one, two, starts) if one is not ours[0] else (None, "")
+def tell(names, made, pairs):
+    """A line for each table, the largest ratio, and that of all tables together; the first table is the one without entries."""
+    print(f"\n{names[0]} and {names[1]}")
+    starts, worst = pairs[0], 0
+    for case, (one, two) in zip(made, pairs, strict=True):
+        ratio, said = ratio_text(one, two, starts) if case is not made[0] else (None, "")
         worst = max(worst, ratio or 0)
-        print(f"{name:36} {names[0]:6} {one.text()}   {names[1]:4} {two.text()}   {said}")
-    print(f"largest ratio, {names[0]} to {names[1]}: {worst:.2f}")
+        print(f"{case.name:36} {names[0]:6} {one.text()}   {names[1]:6} {two.text()}   {said}")
+    together = [sum(pair[side].less(starts[side]) for pair in pairs) for side in (0, 1)]
+    print(f"largest ratio, {names[0]} to {names[1]}: {worst:.2f}; of all tables together: {together[0] / together[1]:.3f}")
 
 
+@functools.cache
 def instructions_of(program, file):
     command = ["valgrind", "--tool=cachegrind", "--cache-sim=no", "--cachegrind-out-file=/dev/null", program]
     with open(file, "rb") as source:
@@ -128,25 +175,28 @@ def instructions_of(program, file):
     return int(re.search(r"I +refs: +([0-9,]+)", done.stderr).group(1).replace(",", ""))
 
 
-def count_instructions(program, other, probe, files, empty):
-    starts = [instructions_of(*run) for run in runs_of(program, other, probe, empty)]
-    print(f"millions of instructions, less {', '.join(f'{start / 1e6:.2f}' for start in starts)} for a table without entries")
-    for name, file in files:
-        counts = [instructions_of(*run) for run in runs_of(program, other, probe, file)]
-        proved, in_c, sized, made = (count - start for count, start in zip(counts, starts))
-        print(f"{name:36} mktree {proved / 1e6:9.3f}   C {in_c / 1e6:9.3f}   ratio {proved / in_c:5.2f}"
-              f"   sized {sized / 1e6:9.3f}   made {made / 1e6:9.3f}   ratio {sized / made:5.2f}", flush=True)
+def count_instructions(programs, made):
+    """As `measure`, with a count in place of times."""
+    print("millions of instructions, less those for the table without entries")
+    for names in comparisons(programs, made[0]):
+        print(f"\n{names[0]} and {names[1]}")
+        starts, together = [instructions_of(*run) for run in comparisons(programs, made[0])[names]], [0, 0]
+        for case in made[1:]:
+            one, two = (instructions_of(*run) - start for run, start in zip(comparisons(programs, case)[names], starts))
+            together = [together[0] + one, together[1] + two]
+            print(f"{case.name:36} {names[0]:6} {one / 1e6:9.3f}   {names[1]:6} {two / 1e6:9.3f}   ratio {one / two:7.4f}", flush=True)
+        print(f"all tables together, {names[0]} to {names[1]}: {together[0] / together[1]:.4f}")
 
 
 def main():
-    program, other, probe, directory = *sys.argv[1:4], Path(sys.argv[4])
+    programs, directory = Programs(*sys.argv[1:4], os.environ.get("MKTREE_BEFORE")), Path(sys.argv[4])
     directory.mkdir(parents=True, exist_ok=True)
-    files, empty = write_tables(directory)
-    compare(program, other, probe, files)
+    made = write_cases(directory)
+    compare(programs, made)
     if sys.argv[5:] == ["instructions"]:
-        count_instructions(program, other, probe, files, empty)
+        count_instructions(programs, made)
     elif sys.argv[5:] != ["compare"]:
-        measure(program, other, probe, files, empty)
+        measure(programs, made)
 
 
 if __name__ == "__main__":

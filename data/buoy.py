@@ -17,6 +17,10 @@ Version 3, the satellite link: 32-bit instructions under 1110. SAMPLE with count
 Version 4, after the storm. SLEEP 0 slept forever and cost us a buoy: no entry claims it any more, so the simulator traps;
     this is the one word that was ever taken back. DOZE (wake by waves) takes the sleeps of 240 to 254 ticks, which no
     program has, by being more specific; it leaves SLEEP 255, the long night of version 1.
+
+Since the storm each buoy keeps an account of its battery, so the list has cycles: beats of the core's clock while it is awake, each of
+which takes the same charge. Falling asleep and waking up are counted, the sleep between them is not. SEND, RECEIVE and SAMPLE have what
+the usual message or row of readings takes of the core; radio and sensors have accounts of their own.
 """
 
 from patterns import InstructionSet, Unless, listed
@@ -29,46 +33,46 @@ LONG_NIGHT = Unless("---- ---- ---- 1111")                      # SLEEP 255
 NO_COUNT = Unless("---- ---- ---- ---- 0000 0000")
 
 VERSION_1 = (
-    listed("MOVE      0000 dddd ssss 0000", CLOCK)
-    + listed("ADD       0001 dddd ssss tttt", CLOCK_BUT_DRIFT)
+    listed("MOVE      0000 dddd ssss 0000 = 1", CLOCK)
+    + listed("ADD       0001 dddd ssss tttt = 1", CLOCK_BUT_DRIFT)
     + listed("""
-    SUB       0010 dddd ssss tttt
-    MASK      0011 dddd ssss tttt
+    SUB       0010 dddd ssss tttt = 1
+    MASK      0011 dddd ssss tttt = 1
     """, CLOCK)
     + listed("""
-    SET       0100 dddd iiii iiii
-    READ      0101 dddd pppp pppp
-    WRITE     0110 ssss pppp pppp
-    LOAD      0111 dddd ssss oooo
-    STORE     1000 dddd ssss oooo
-    BRANCH    1001 cccc oooo oooo
-    CALL      1010 oooo oooo oooo
-    RETURN    1011 0000 0000 0000
+    SET       0100 dddd iiii iiii = 1
+    READ      0101 dddd pppp pppp = 3
+    WRITE     0110 ssss pppp pppp = 3
+    LOAD      0111 dddd ssss oooo = 2
+    STORE     1000 dddd ssss oooo = 2
+    BRANCH    1001 cccc oooo oooo = 2
+    CALL      1010 oooo oooo oooo = 3
+    RETURN    1011 0000 0000 0000 = 3
     """)
-    + listed("SLEEP     1011 0001 tttt tttt", NO_SLEEP))
+    + listed("SLEEP     1011 0001 tttt tttt = 12", NO_SLEEP))
 
 VERSION_2 = (
-    listed("TRIP      00kk 1111 ssss tttt", DRIFT)
+    listed("TRIP      00kk 1111 ssss tttt = 4", DRIFT)
     + listed("""
-    LAMP      1001 1111 llll pppp
-    LAMP OFF  1001 1111 llll 0000
-    SHIFT     1100 dddd ssss tttt
-    COMPARE   1101 dddd iiii iiii
+    LAMP      1001 1111 llll pppp = 5
+    LAMP OFF  1001 1111 llll 0000 = 3
+    SHIFT     1100 dddd ssss tttt = 1
+    COMPARE   1101 dddd iiii iiii = 1
     """))
 
 VERSION_3 = (
     listed("""
-    RELEASE   1011 0000 0000 nnnn
-    SEND      1110 0000 dddd ssss aaaa aaaa aaaa aaaa
-    RECEIVE   1110 0001 dddd ssss aaaa aaaa aaaa aaaa
-    FAR CALL  1110 0010 aaaa aaaa aaaa aaaa aaaa aaaa
-    SET LONG  1110 0011 0000 dddd iiii iiii iiii iiii
-    FILTER    1110 01ww dddd ssss kkkk kkkk kkkk kkkk
-    STOP      1110 1ppp pppp dddd 0000 0000 0000 0000
-    STOP ALL  1110 1111 1111 dddd 0000 0000 0000 0000
+    RELEASE   1011 0000 0000 nnnn = 4
+    SEND      1110 0000 dddd ssss aaaa aaaa aaaa aaaa = 620
+    RECEIVE   1110 0001 dddd ssss aaaa aaaa aaaa aaaa = 480
+    FAR CALL  1110 0010 aaaa aaaa aaaa aaaa aaaa aaaa = 4
+    SET LONG  1110 0011 0000 dddd iiii iiii iiii iiii = 2
+    FILTER    1110 01ww dddd ssss kkkk kkkk kkkk kkkk = 18
+    STOP      1110 1ppp pppp dddd 0000 0000 0000 0000 = 6
+    STOP ALL  1110 1111 1111 dddd 0000 0000 0000 0000 = 40
     """)
-    + listed("SAMPLE    1110 1ppp pppp dddd nnnn nnnn rrrr rrrr", NO_COUNT))
+    + listed("SAMPLE    1110 1ppp pppp dddd nnnn nnnn rrrr rrrr = 2400", NO_COUNT))
 
-VERSION_4 = listed("DOZE      1011 0001 1111 wwww", LONG_NIGHT)
+VERSION_4 = listed("DOZE      1011 0001 1111 wwww = 16", LONG_NIGHT)
 
 SET = InstructionSet("buoy", 32, tuple(VERSION_1 + VERSION_2 + VERSION_3 + VERSION_4))

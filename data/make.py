@@ -1,7 +1,7 @@
 """Makes the tables in this folder from the lists of instructions beside it.
 
 Usage: make.py            writes avr.table, riscv.table, a32.table and buoy.table, and prints what is in them
-       make.py list NAME  prints each entry of a set: number, label, mnemonic, pattern, number of conditions
+       make.py list NAME  prints each entry of a set: number, label, mnemonic, pattern, number of conditions, cycles if it has them
 """
 
 import sys
@@ -20,12 +20,13 @@ SETS = {one.SET.name: one.SET for one in (avr, riscv, a32, buoy)}
 def write_tables():
     for name, one in SETS.items():
         (FOLDER / f"{name}.table").write_bytes(table_bytes(one))
-        print(f"{name}: {len(one.instructions)} entries, {len(table_words(one))} words")
+        print(f"{name}: {len(one.instructions)} entries, {len(table_words(one))} words{', with cycles' if one.has_cycles else ''}")
 
 
 def print_entries(one):
     for number, (instruction, label) in enumerate(zip(one.instructions, labels_of(one.instructions))):
-        print(f"{number:3} {label:3}  {instruction.mnemonic:20} {instruction.pattern} {len(instruction.conditions)}")
+        cycles = f" {instruction.cycles:5}" if one.has_cycles else ""
+        print(f"{number:3} {label:3}  {instruction.mnemonic:20} {instruction.pattern:{one.width}} {len(instruction.conditions)}{cycles}")
 
 
 def main():

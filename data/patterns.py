@@ -3,6 +3,9 @@
 A pattern is written high bit first. 0 and 1 are opcode bits, a letter is a bit of a field, blanks are for the eye. Bits side by
 side with the same letter are one field, so a field that the encoding splits comes out as two. Fields stand in the table from
 the high bits down. In a condition - is a bit outside the mask, and bits left out at the low end are outside it too.
+
+"= 3" after a pattern says that the instruction takes 3 cycles (document 02, No. 3). A set has cycles for all of its instructions or for
+none: with them its table is of kind 6, without them of kind 1.
 """
 
 import re
@@ -12,6 +15,7 @@ from dataclasses import dataclass
 MOST_FIELDS = MOST_CONDITIONS = MOST_UNMATCHING = 8
 MOST_ENTRIES = 256
 MOST_WORDS = 16384
+MOST_CYCLES = 65535
 
 
 @dataclass(frozen=True)
@@ -26,6 +30,7 @@ class Instruction:
     mnemonic: str
     pattern: str
     conditions: tuple = ()
+    cycles: int = None
 
 
 @dataclass(frozen=True)
@@ -34,15 +39,25 @@ class InstructionSet:
     width: int
     instructions: tuple
 
+    @property
+    def has_cycles(self):
+        """Whether all instructions have cycles; else none may have them."""
+        with_cycles = sum(instruction.cycles is not None for instruction in self.instructions)
+        if with_cycles not in (0, len(self.instructions)):
+            raise ValueError(f"{self.name} has cycles for {with_cycles} of {len(self.instructions)} instructions")
+        return with_cycles > 0
+
 
 def listed(text, *conditions):
-    """One instruction a line: the mnemonic, at least two blanks, the pattern; what follows # is a note."""
+    """One instruction a line: the mnemonic, at least two blanks, the pattern, and with cycles = and their number; what follows # is a
+    note."""
     instructions = []
     for line in text.splitlines():
         line = line.partition("#")[0].strip()
         if line:
-            mnemonic, pattern = re.split("  +", line, maxsplit=1)
-            instructions.append(Instruction(mnemonic, pattern.replace(" ", ""), conditions))
+            mnemonic, rest = re.split("  +", line, maxsplit=1)
+            pattern, equals, cycles = rest.partition("=")
+            instructions.append(Instruction(mnemonic, pattern.replace(" ", ""), conditions, int(cycles) if equals else None))
     return instructions
 
 
@@ -67,8 +82,8 @@ def condition_words(condition, width):
 
 
 def limited(number, most):
-    if number > most:
-        raise ValueError(f"{number}, and at most {most} are allowed")
+    if not 0 <= number <= most:
+        raise ValueError(f"{number}, and 0 to {most} are allowed")
     return number
 
 
@@ -78,6 +93,7 @@ def entry_words(instruction, label, width):
     conditions = instruction.conditions
     words = [2 << 28 | label << 16 | len(pattern) << 8 | limited(len(fields), MOST_FIELDS) << 4
              | limited(len(conditions), MOST_CONDITIONS), *mask_and_value(pattern, width)]
+    words += [] if instruction.cycles is None else [limited(instruction.cycles, MOST_CYCLES)]
     words += [3 << 28 | lowest << 8 | size for lowest, size in fields]
     for condition in conditions:
         words += condition_words(condition, width)
@@ -92,7 +108,8 @@ def labels_of(instructions):
 
 def table_words(one):
     """The words of an instruction set's table."""
-    words = [1 << 28 | limited(len(one.instructions), MOST_ENTRIES) << 16 | one.width]
+    kind = 6 if one.has_cycles else 1
+    words = [kind << 28 | limited(len(one.instructions), MOST_ENTRIES) << 16 | one.width]
     for instruction, label in zip(one.instructions, labels_of(one.instructions)):
         words += entry_words(instruction, label, one.width)
     limited(len(words), MOST_WORDS)

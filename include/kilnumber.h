@@ -1,6 +1,6 @@
 /*
  * Kilnumber for programs in C and C++: the walk of a decode tree, with the bits that it tests, the size of a table's tree, the check
- * of a tree against its table, the listing of an image.
+ * of a tree against its table, the listing of an image, the cycles of an entry.
  *
  * docs/FORMAT.md has all that is written in bits: tables, trees, items and results, with every refusal's number and its place, and
  * the orders in which refusals are looked for. This file gives them names.
@@ -29,7 +29,7 @@ extern "C" {
 enum kilnumber_refusal {
     KILNUMBER_NO_REFUSAL = 0,
     KILNUMBER_TABLE_START = 1,     /* the table is empty, too long, or its first word is wrong */
-    KILNUMBER_TABLE_WORD = 2,      /* a head word of the table is wrong, or the table ends early or late */
+    KILNUMBER_TABLE_WORD = 2,      /* a head word or a cycles word is wrong, or the table ends early or late */
     KILNUMBER_TABLE_PATTERN = 3,   /* a mask or a value is wrong */
     KILNUMBER_TABLE_FIELD = 4,     /* a field is wrong, or an entry's bits are not covered */
     KILNUMBER_TREE_SIZE = 5,       /* the table's tree is over the limit of 16,384 words */
@@ -37,6 +37,7 @@ enum kilnumber_refusal {
     KILNUMBER_HIGH_WORD = 7,       /* the word has a bit at or above the tree's width */
     KILNUMBER_TREE_HEADER = 8,     /* the tree's header or its length is wrong */
     KILNUMBER_DAMAGED_NODE = 9,    /* a node on the path is damaged */
+    KILNUMBER_NO_ENTRY = 11,       /* the table has no such entry */
     KILNUMBER_WRONG_TREE = 14,     /* the tree is not right for the table */
     KILNUMBER_NO_IMAGE_TABLE = 15, /* the table's width is not 32, or a length is not 16 or 32 */
     KILNUMBER_BAD_IMAGE = 16,      /* the image has an odd number of bytes, or too many */
@@ -99,8 +100,8 @@ uint64_t kilnumber_list(const uint32_t *table, size_t table_words, const uint32_
 /* Without a refusal: the number of items of a listing. */
 static inline uint32_t kilnumber_items(uint64_t result) { return (uint32_t)(result & 0xffffffff); }
 
-/* The place in the result of a listing, a check or a size: after 1 to 4 the index of the table's word at fault, after
- * KILNUMBER_NO_ROOM the halfword address of the first item left out. (A walk's is kilnumber_place.) */
+/* The place in any result but a walk's, which has kilnumber_place: after 1 to 4 the index of the table's word at fault, after
+ * KILNUMBER_NO_ROOM the halfword address of the first item left out. */
 static inline uint32_t kilnumber_list_place(uint64_t result) { return (uint32_t)(result & 0xffffffff); }
 
 /* An item: its kind, the entry where it is an instruction, and its halfword address; twice that is its offset in bytes. */
@@ -112,6 +113,15 @@ enum kilnumber_item_kinds {
 static inline uint32_t kilnumber_item_kind(uint32_t item) { return item >> 28; }
 static inline uint32_t kilnumber_item_entry(uint32_t item) { return item >> 20 & 0xff; }
 static inline uint32_t kilnumber_item_address(uint32_t item) { return item & 0xfffff; }
+
+/* ------------------------------------------------------------------------------------------------------------- the cycles */
+
+/* The cycles that one instruction of an entry takes; 0 for each entry of a table of kind 1, which has none. A call reads the whole
+ * table: a battery account calls it once for each entry, not for each item. Refusals: 1 to 4, 11. */
+uint64_t kilnumber_cycles(const uint32_t *table, size_t table_words, uint32_t entry);
+
+/* Without a refusal: the number of cycles, at most 65,535. */
+static inline uint32_t kilnumber_cycle_count(uint64_t result) { return (uint32_t)(result & 0xffffffff); }
 
 /* ------------------------------------------------------------------------------------------------------------- bytes and words */
 

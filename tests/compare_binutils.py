@@ -51,14 +51,18 @@ def trouble(one, record, answer):
     return None
 
 
-def answers(path, one, recorded):
-    for line in compare_data.lookups(path, one.words, [word for word, *_ in recorded]):
+def answers(path, one, recorded, tally):
+    """What the table selects, and for a part of the words its twin too."""
+    words = [word for word, *_ in recorded]
+    lines = compare_data.lookups(path, one.words, words)
+    compare_data.compare_twin_words(path, one, words, lines, tally)
+    for line in lines:
         answer = line.split(" ")[4]
         yield answer if answer == names.NOTHING else int(answer)
 
 
 def compare(path, one, recorded, tally):
-    for record, answer in zip(recorded, answers(path, one, recorded), strict=True):
+    for record, answer in zip(recorded, answers(path, one, recorded, tally), strict=True):
         if reason := trouble(one, record, answer):
             sys.exit(f"difference: {one.name} {record[0]:08x}: {reason}")
         tally[one.name] += 1
@@ -85,9 +89,11 @@ def main():
         noticed[name] = sum(is_noticed(rng, one, recorded) for _ in range(ALTERED))
         # Each entry has words, and nearly every altered set is noticed.
         least = {f"{name}, entry {number}": 1 for number in range(len(one.set.instructions))}
+        least |= {f"{name}, twin": LEAST_WORDS // compare_data.TWIN_EACH}
         probe.require_enough(tally, {name: LEAST_WORDS, f"{name}, nothing": 50} | least)
         probe.require_enough(noticed, {name: ALTERED * 9 // 10})
-    said = "; ".join(f"{name}: {tally[name]} words, {tally[f'{name}, not judged']} of them not judged, {tally[f'{name}, nothing']} nothing, "
+    said = "; ".join(f"{name}: {tally[name]} words, {tally[f'{name}, twin']} of them in the twin too, "
+                     f"{tally[f'{name}, not judged']} not judged, {tally[f'{name}, nothing']} nothing, "
                      f"{noticed[name]} of {ALTERED} altered sets noticed" for name in SETS)
     print(f"compare_binutils good: {said}")
 

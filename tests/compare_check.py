@@ -1,5 +1,6 @@
-"""Compares request 7 of probe (check) with the second implementation, line for line. It also walks the trees that
-are accepted, where a walk's count is the number of ones in its mask, and some that test a bit twice.
+"""Compares request 7 of probe (check) with the second implementation, line for line. It checks a part of the trees again with twins of
+the tables. It also walks the trees that are accepted, where a walk's count is the number of ones in its mask, and some that test a
+bit twice.
 
 Usage: compare_check.py [path of probe]. Exits with status 1 at the first difference.
 """
@@ -11,11 +12,13 @@ from itertools import islice
 
 import masks
 import probe
+import twinned
 from second import checktrees, examples, tables, trees
 from second.checker import PARTS, first_missing_once
 from second.lines import line_of
 from second.reader import read
 from second.tree import conflict_word, nodes_of, written
+from second.twins import Twins, kind_of
 
 SEED = 7
 WALK_SEED = 701         # words to walk; the other draws don't depend on them
@@ -25,6 +28,7 @@ SMALL_NODES = 9         # trees of at most that many nodes are altered in every 
 SMALL_TREES = 60
 MIDDLE_NODES = 30       # trees of at most that many nodes are altered in their shape
 AT_ONCE = 4000
+TWIN_EACH = 3           # every so many-th check is done with a twin too
 
 
 @dataclass
@@ -202,8 +206,7 @@ def ambiguous_tables(rng, ambiguous):
 def refused_tables(rng, accepted):
     """1 to 4 come before 14."""
     for one in accepted[::3]:
-        laid = tables.lay_out(one.plan)
-        words = tables.damaged(laid.words, tables.some_damage(rng, laid))
+        words = tables.some_damaged(rng, one.plan)
         yield "refused table", words, rng.choice([one.tree, one.tree, one.tree[:-1], []])
     laid = tables.lay_out(accepted[0].plan)
     yield "refused table", tables.damaged(laid.words, tables.too_long(rng, laid)), accepted[0].tree
@@ -237,21 +240,25 @@ def count(tally, name, words, tree, seen):
     tally[f"{name}: {outcome}"] += 1
     if outcome == "yes":
         tally[f"yes, width {words[0] & 0xFF}"] += 1
+    if outcome in ("2", "3", "4"):
+        tally[f"kind {kind_of(words)}, faulty"] += 1
     if outcome == "14":
         tally[f"14, part {first_missing_once(tuple(words), tuple(tree))}"] += 1
 
 
 def compare(path, rng, tally):
-    cases, walk_rng = all_cases(rng), random.Random(WALK_SEED)
+    cases, walk_rng, twins = all_cases(rng), random.Random(WALK_SEED), Twins(SEED)
     while group := list(islice(cases, AT_ONCE)):
         questions = [("check", words, tree) for _, words, tree in group]
-        to_walk = []
-        for (name, words, tree), question, seen in zip(group, questions, probe.ask(path, questions), strict=True):
+        lines, to_walk = probe.ask(path, questions), []
+        for (name, words, tree), question, seen in zip(group, questions, lines, strict=True):
             probe.stop_at_difference(name, question, line_of(question), seen)
             count(tally, name, words, tree, seen)
             if seen == examples.ACCEPTED or name == "tested again":
                 to_walk.append((seen == examples.ACCEPTED, tree))
         walk_some(path, walk_rng, to_walk, tally)
+        asked = [(name, question, seen) for (name, _, _), question, seen in zip(group, questions, lines)]
+        twinned.compare(path, twins, asked[::TWIN_EACH], tally)
 
 
 def walk_some(path, rng, to_walk, tally):
@@ -286,6 +293,7 @@ LEAST = {
     "tested again: 14": 1000, "collapsed: 14": 700, "leaf changed: 14": 2000, "sides swapped: 14": 200,
     "another table's tree: 14": 400, "foreign: 14": 500, "flipped: 14": 150, "ambiguous: 14": 50, "ambiguous, named: 14": 50,
     "accepted, walked with tests": 2500, "words that agree": 2500, "a bit tested twice": 300,
+    "kind 1, faulty": 70, "kind 6, faulty": 70, "twins": 15000, "twins by the second": 700,
 }
 
 
@@ -300,7 +308,7 @@ def main():
     print(f"compare_check good: {tally['checks']} checks, {len(examples.CHECK_EXAMPLES)} of them also by hand; "
           f"yes: {tally['yes']}, {refused} (by the first part missed, 1 to 8: {parts}); "
           f"walked: {tally['accepted, walked with tests']} accepted trees with tests, {tally['words that agree']} other words "
-          f"that agree on a mask, {tally['a bit tested twice']} walks that test a bit twice")
+          f"that agree on a mask, {tally['a bit tested twice']} walks that test a bit twice; {tally['twins']} checks with twins")
 
 
 if __name__ == "__main__":

@@ -1,5 +1,6 @@
-"""Checks the instruction sets in data/: each table is what its list makes, its tree is the second implementation's, and what
-probe selects is what the second implementation selects and what a decoder in decoders/ names. A table that somebody adds to data/, with
+"""Checks the instruction sets in data/: each table is what its list makes, its tree is the second implementation's, what
+probe selects is what the second implementation selects and what a decoder in decoders/ names, and its cycles are the list's. The twin
+of a table, which is of the other kind, has the same tree and selects the same. A table that somebody adds to data/, with
 a list or without, has no such decoder, and is compared with the second implementation alone.
 
 Usage: compare_data.py [path of probe [path of mktree]]. Exits with status 1 at the first difference.
@@ -16,6 +17,7 @@ from pathlib import Path
 import masks
 import mktree
 import probe
+import twinned
 
 DATA = Path(__file__).resolve().parent.parent / "data"
 sys.path.insert(1, str(DATA))
@@ -31,8 +33,10 @@ from second.lines import line_of, mktree_text, read_line
 from second.reader import Refusal, read
 from second.selection import AMBIGUOUS, NOTHING, select
 from second.tree import nodes_once
+from second.twins import Twins, cycles_of
 
 SEED = 9
+TWINS = Twins(902)
 MASK_SEED = 901                 # words that agree on a mask; the other draws don't depend on them
 DECODERS = {"avr": decoders.avr, "riscv": decoders.riscv, "a32": decoders.a32, "buoy": decoders.buoy}
 RANDOM_WORDS = 5400
@@ -41,6 +45,7 @@ MADE_WORDS = 7500
 ALTERED = 15                    # altered sets of each, which the decoder must tell from the real one
 WORDS_FOR_ALTERED = 40
 ADDED_WORDS = 200               # looked up in a table that somebody added
+TWIN_EACH = 5                   # every so many-th word is looked up in the twin too
 
 # Words as assemblers print them, known without any table of ours.
 KNOWN = {
@@ -99,12 +104,27 @@ def stop(text):
 
 # ---------------------------------------------------------------------------- files, reading, trees
 
-def compare_file(path, one):
+def compare_file(path, one, tally):
     """The file is what the list makes; probe reads it as the second implementation does."""
     if (DATA / f"{one.name}.table").read_bytes() != table_bytes(one.set):
         stop(f"data/{one.name}.table isn't what data/make.py makes")
     question = "read", one.words
-    probe.stop_at_difference(f"{one.name}, reading", question, read_line(one.words), probe.ask(path, [question])[0])
+    line = probe.ask(path, [question])[0]
+    probe.stop_at_difference(f"{one.name}, reading", question, read_line(one.words), line)
+    twinned.compare(path, TWINS, [(f"{one.name}, reading", question, line)], tally)
+
+
+def compare_cycles(path, one, tally):
+    """Each entry's cycles, of the list and in the table, and those of its twin; 11 for the entry after them."""
+    for words, cycles in ((one.words, [instruction.cycles or 0 for instruction in one.set.instructions]),
+                          (TWINS.of(one.words), cycles_of(TWINS.of(one.words)))):
+        expected = [*(f"13 0 0 00000000 {number}" for number in cycles), "13 11 0 00000000"]
+        questions = [("cycles", words, entry) for entry in range(len(expected))]
+        for question, line, seen in zip(questions, expected, probe.ask(path, questions), strict=True):
+            probe.stop_at_difference(f"{one.name}, cycles", question, line, seen)
+            probe.stop_at_difference(f"{one.name}, cycles by the second", question, line_of(question), seen)
+        tally["cycles"] += len(cycles)
+        tally["cycles, not 0"] += sum(number != 0 for number in cycles)
 
 
 def compare_tree(path, mktree_path, one, tally):
@@ -115,11 +135,13 @@ def compare_tree(path, mktree_path, one, tally):
         stop(f"{one.name}: {expected}")
     seen = mktree.text_of(mktree_path, data)
     mktree.stop_at_difference(one.name, data, expected, seen)
+    twinned.compare_text(mktree_path, TWINS, one.name, data, seen, tally, second=len(one.words) < 1000)
     tree = [int(line.split(" ")[1], 16) for line in seen.splitlines()]
     questions = ("check", one.words, tree), ("measure", one.words)
     checked, size = probe.ask(path, questions)
     probe.stop_at_difference(f"{one.name}, check", questions[0], "7 0 0 00000000 yes", checked)
     probe.stop_at_difference(f"{one.name}, size", questions[1], line_of(questions[1]), size)
+    twinned.compare(path, TWINS, [(one.name, questions[0], checked), (one.name, questions[1], size)], tally)
     tally["tree lines"] += len(tree)
     return tree
 
@@ -177,9 +199,19 @@ def decoded_name(name, word):
     return DECODERS[name].name_of(word) or NOTHING
 
 
+def compare_twin_words(path, one, asked, lines, tally):
+    """The same lookups in the twin."""
+    twin, part = TWINS.of(one.words), asked[::TWIN_EACH]
+    for word, line, seen in zip(part, lines[::TWIN_EACH], lookups(path, twin, part), strict=True):
+        probe.stop_at_difference(f"{one.name}, lookup in the twin", ("lookup", twin, word), line, seen)
+    tally[f"{one.name}, twin"] += len(part)
+
+
 def compare_words(path, rng, one, tally):
     asked = some_words(rng, one, tally)
-    for word, line in zip(asked, lookups(path, one.words, asked), strict=True):
+    lines = lookups(path, one.words, asked)
+    compare_twin_words(path, one, asked, lines, tally)
+    for word, line in zip(asked, lines, strict=True):
         answer = select(one.table, word)
         probe.stop_at_difference(f"{one.name}, lookup", ("lookup", one.words, word), f"2 0 0 00000000 {answer}", line)
         if decoded_name(one.name, word) != one.mnemonic(answer):
@@ -218,7 +250,9 @@ def listed_name(one, item):
 
 def compare_listing(path, one, tree, tally):
     """The lister on AVR code."""
-    line = probe.ask(path, [("list", one.words, tree, AVR_PROGRAM, [0] * (len(AVR_PROGRAM) // 2))])[0]
+    question = "list", one.words, tree, AVR_PROGRAM, [0] * (len(AVR_PROGRAM) // 2)
+    line = probe.ask(path, [question])[0]
+    twinned.compare(path, TWINS, [("AVR program", question, line)], tally)
     items = [int(item, 16) for item in line.partition("| ")[2].split()][:int(line.split(" ")[4])]
     seen = [f"{item & 0xFFFFF} {listed_name(one, item)}" for item in items]
     if seen != AVR_LISTING:
@@ -282,29 +316,33 @@ def compare_added(path, mktree_path, rng, file, tally):
     mktree.stop_at_difference(file.name, data, mktree_text(data), mktree.text_of(mktree_path, data))
     width = words[0] & 0xFF if words else 0
     questions = [("read", words)] + [("lookup", words, rng.getrandbits(min(width, 32) or 32)) for _ in range(ADDED_WORDS)]
+    questions += [("cycles", words, entry) for entry in (0, 1, 255, 256)]
     for question, line in zip(questions, probe.ask(path, questions), strict=True):
         probe.stop_at_difference(file.name, question, line_of(question), line)
     tally["added"] += 1
 
 
 def try_added(path, mktree_path, rng):
-    """A folder with tables that a user added: a good one, an ambiguous one, one at fault and an empty file."""
+    """A folder with tables that a user added: a good one, one with cycles, an ambiguous one, one at fault and an empty file."""
     tally = Counter()
     with tempfile.TemporaryDirectory() as folder:
-        for name, words in (("good", examples.WORKED), ("ambiguous", examples.ZERO_HIGH_ZERO_LOW), ("cut", examples.WORKED[:5]), ("empty", [])):
+        for name, words in (("good", examples.WORKED), ("cycles", examples.WORKED_CYCLES), ("ambiguous", examples.ZERO_HIGH_ZERO_LOW),
+                            ("cut", examples.WORKED[:5]), ("empty", [])):
             (Path(folder) / f"{name}.table").write_bytes(probe.pack(words))
         for file in added(Path(folder)):
             compare_added(path, mktree_path, rng, file, tally)
-    if tally["added"] != 4:
-        stop(f"of four added tables {tally['added']} were compared")
+    if tally["added"] != 5:
+        stop(f"of five added tables {tally['added']} were compared")
 
 
 # ---------------------------------------------------------------------------- all of it
 
 def least(sets):
     needed = {"known": 90, "listed": len(AVR_LISTING), "altered": ALTERED * len(sets), "tree lines": 10000}
-    needed |= {"words that agree": 60}
+    needed |= {"words that agree": 60, "cycles": 2 * sum(len(one.set.instructions) for one in sets), "cycles, not 0": 400,
+               "twins": 4 * len(sets) + 1, "twins by the second": 2}
     for one in sets:
+        needed |= {f"{one.name}, twin": 20000 // TWIN_EACH}
         needed |= {one.name: 20000, f"{one.name}, made": 7000, f"{one.name}, neighbours": 7000}
         needed |= {f"{one.name}, entry {NOTHING}": 300}
         needed |= {f"{one.name}, entry {number}": 10 for number in range(len(one.set.instructions))}
@@ -318,7 +356,8 @@ def main():
         stop(f"data/ lacks {missing}")
     sets = [ready(name, make.SETS[name]) for name in DECODERS]
     for one in sets:
-        compare_file(path, one)
+        compare_file(path, one, tally)
+        compare_cycles(path, one, tally)
         tree = compare_tree(path, mktree_path, one, tally)
         compare_readme(one, tree)
         compare_known(path, one, tally)
@@ -332,9 +371,11 @@ def main():
         compare_added(path, mktree_path, rng, file, tally)
     probe.require_enough(tally, least(sets))
     said = ", ".join(f"{one.name}: {tally[one.name]}" for one in sets)
+    in_twins = sum(tally[f"{one.name}, twin"] for one in sets)
     print(f"compare_data good: {len(sets)} sets, {tally['tree lines']} tree words; words by set {said}; "
           f"{tally['known']} known words and {tally['words that agree']} that agree on a mask, "
-          f"{tally['listed']} items listed, {tally['altered']} altered sets noticed; "
+          f"{tally['listed']} items listed, {tally['altered']} altered sets noticed; {tally['cycles']} cycles; of the twins "
+          f"{in_twins} words and {tally['twins']} other questions; "
           f"{tally['added']} tables added by others")
 
 

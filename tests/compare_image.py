@@ -1,6 +1,6 @@
 """Compares requests 8 and 9 of probe (a step of the lister, a whole listing) with the second implementation, line for line;
-then each step's mask with probe's own walk of the word there, and probe's own steps through an image with its own listing, both
-without the second one.
+then each step's mask with probe's own walk of the word there, a part of the steps and listings with those of the tables' twins, and
+probe's own steps through an image with its own listing, all without the second one.
 
 Usage: compare_image.py [path of probe]. Exits with status 1 at the first difference.
 """
@@ -11,10 +11,12 @@ from dataclasses import dataclass
 
 import masks
 import probe
+import twinned
 from second import checktrees, examples, images, tables, trees
 from second.lines import line_of
 from second.reader import read
 from second.tree import conflict_word, nodes_of, written
+from second.twins import Twins, kind_of
 
 SEED = 8
 TABLES = 300
@@ -22,6 +24,7 @@ IMAGES_EACH = 6
 USUAL_NODES = 150
 MARK = 0x5EED0000
 STEPS_FOLLOWED = 40     # images that are stepped through
+TWIN_EACH = 3           # every so many-th step or listing is asked of a twin too
 
 
 @dataclass
@@ -138,8 +141,7 @@ def refused_images(rng, good):
         yield "15 before 16 and 14", one.words, wrong_tree(rng, one.tree), rng.choice([right, right[:-1]])
     for one in rng.sample(good, 60):
         yield "16 before 14", one.words, wrong_tree(rng, one.tree), images.odd_image(rng, one.plan)
-        laid = tables.lay_out(one.plan)
-        damaged = tables.damaged(laid.words, tables.some_damage(rng, laid))
+        damaged = tables.some_damaged(rng, one.plan)
         yield "refused table", damaged, rng.choice([one.tree, []]), images.some_image(rng, one.plan) + rng.choice([b"", b"\1"])
 
 
@@ -148,7 +150,8 @@ def letter_images(rng):
     for plan in (images.letters_plan(), tables.TablePlan(32, [])):
         words = tables.lay_out(plan).words
         tree = written(32, nodes_of(read(words)))
-        for _ in range(4):
+        # Enough of them that each letter begins an instruction in one.
+        for _ in range(8):
             letters = [number << 8 | rng.getrandbits(8) for number in range(256)]
             rng.shuffle(letters)
             yield "letters", words, tree, images.image_of(letters)
@@ -209,6 +212,8 @@ def count(tally, name, what, question, seen):
     tally[f"{question[0]} {number}"] += 1
     tally[f"{name}: {number}"] += 1
     tally[f"{what}: {number}"] += 1
+    if number in ("2", "3", "4"):
+        tally[f"kind {kind_of(question[1])}, faulty"] += 1
     if number == "17":
         tally["17 beyond sixteen bits"] += int(parts[2]) > 65535
     if number == "0" and question[0] == "step":
@@ -226,17 +231,21 @@ def compare_by_hand(path):
 
 
 def compare(path, rng, tally):
+    twins = Twins(SEED)
     for source in (hand_written(), small_images(rng), long_images(rng)):
         cases, stepped = [], []
         for name, questions in source:
             tally["images"] += 1
             cases += [(name, what, question) for what, question in questions]
-        for (name, what, question), seen in zip(cases, probe.ask(path, [case[2] for case in cases]), strict=True):
+        lines = probe.ask(path, [case[2] for case in cases])
+        for (name, what, question), seen in zip(cases, lines, strict=True):
             probe.stop_at_difference(f"{name}, {what}", question, line_of(question), seen)
             count(tally, name, what, question, seen)
             if seen.startswith("8 0 ") and not seen.endswith(" end"):
                 stepped.append((question, seen))
         compare_masks(path, stepped, tally)
+        asked = [(f"{name}, {what}", question, seen) for (name, what, question), seen in zip(cases, lines)]
+        twinned.compare(path, twins, asked[::TWIN_EACH], tally)
 
 
 def word_at(image, address):
@@ -290,6 +299,7 @@ LEAST = {
     "wrong tree: 14": 2000, "odd: 16": 2000, "empty: 0": 2000, "steps followed": 200,
     "mask, kind 12": 2500, "mask, kind 13": 1000, "mask, kind 14": 400, "mask, kind 12, the lower half tested": 300,
     "mask, kind 13, the lower half tested": 100, "mask, kind 14, the lower half tested": 100,
+    "kind 1, faulty": 100, "kind 6, faulty": 100, "twins": 9000, "twins by the second": 400,
 }
 
 
@@ -307,7 +317,7 @@ def main():
     items = ", ".join(f"{one}: {tally[f'list, {one}']}" for one in KINDS.values())
     walked = ", ".join(f"{one}: {tally[f'mask, {one}']}" for one in KINDS.values())
     print(f"compare_image good: {tally['images']} images; steps by number {steps_said}; listings by number {lists_said}; "
-          f"items listed, {items}; {tally['steps followed']} steps followed; masks walked, {walked}")
+          f"items listed, {items}; {tally['steps followed']} steps followed; masks walked, {walked}; {tally['twins']} questions to twins")
 
 
 if __name__ == "__main__":

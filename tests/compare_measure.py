@@ -1,6 +1,7 @@
 """Compares request 12 of probe (sizing) with the second implementation, line for line. Then holds probe's sizes against probe's own
 trees, without the second one: what generating takes, returns and refuses, and the counts of walks, of every word up to a width.
-At the end wrong sizings stand in for probe's (second/wrong_sizes.py), and each must be noticed in both ways.
+Twins of the other kind are sized and lent the same. At the end wrong sizings stand in for probe's (second/wrong_sizes.py), and each
+must be noticed in both ways.
 
 Usage: compare_measure.py [path of probe]. Exits with status 1 at the first difference. Quotations are document 02's No. 2.
 """
@@ -15,10 +16,12 @@ from itertools import chain, islice
 import compare_tree
 import masks
 import probe
+import twinned
 from second import examples, tables, trees
 from second.lines import line_of, size_line
 from second.reader import Refusal
 from second.tree import MOST_TREE_WORDS
+from second.twins import Twins, kind_of
 from second.wrong_sizes import WRONG
 
 SEED = 12
@@ -193,12 +196,15 @@ def by_itself(case, lent):
 
 
 def compare(path, cases, tally):
+    asked = []
     for case, lent in zip(cases, lend(path, cases), strict=True):
         for difference in chain(by_the_second(case, lent), by_itself(case, lent)):
             probe.stop_at_difference(*difference)
         if case.known is not None:
             probe.stop_at_difference(f"{case.name}, as it is built", case.question, case.known, case.line)
         count(case, lent, tally)
+        asked += [(case.name, case.question, case.line), *((case.name, *one) for one in lent)]
+    twinned.compare(path, Twins(SEED), asked, tally, second_each=47)
 
 
 # ---------------------------------------------------------------------------- wrong sizings
@@ -233,6 +239,8 @@ def count(case, lent, tally):
     tally["6, not word 0"] += number == "6" and not case.line.endswith(" 00000000")
     tally["into 16,384 words"] += case.buffer is WHOLE
     tally["lent buffers"] += len(lent)
+    if number in ("2", "3", "4"):
+        tally[f"kind {kind_of(case.words)}, faulty"] += 1
     if case.size:
         width = case.words[0] & 0xFF
         tally[f"sized, width {width}"] += 1
@@ -247,6 +255,7 @@ LEAST = {
     "conflicts over the limit": 2, "large random tree": 3, "into 16,384 words": 400, "lent buffers": 3000,
     **{f"sized, width {width}": 20 for width in range(1, 33)}, **{f"sized, {tests} tests": 5 for tests in range(25)},
     "every word": 250, "words of these": 50000, "walks": 60000,
+    "kind 1, faulty": 80, "kind 6, faulty": 80, "twins": 3500, "twins by the second": 70,
 }
 
 
@@ -263,7 +272,8 @@ def main():
     numbers = ", ".join(f"{number}: {tally[f'number {number}']}" for number in range(1, 7))
     print(f"compare_measure good: {tally['tables']} tables; sized: {tally['number 0']}, {numbers}; {tally['lent buffers']} buffers by "
           f"their size, {tally['into 16,384 words']} of 16,384 words; {tally['every word']} tables with every word: "
-          f"{tally['words of these']}, {tally['walks'] - tally['words of these']} other walks; {noticed} of {len(WRONG)} wrong sizings noticed")
+          f"{tally['words of these']}, {tally['walks'] - tally['words of these']} other walks; {tally['twins']} questions to twins; "
+          f"{noticed} of {len(WRONG)} wrong sizings noticed")
 
 
 if __name__ == "__main__":

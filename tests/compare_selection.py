@@ -1,5 +1,6 @@
 """Compares requests 2, 5 and 6 of probe (lookup, decode, encode) with the second implementation, line for line,
-and then checks probe's own answers by round trips that don't use the second implementation.
+and then checks probe's own answers by round trips that don't use the second implementation, and asks the same about twins of the
+other kind.
 
 Usage: compare_selection.py [path of probe]. Exits with status 1 at the first difference.
 """
@@ -10,8 +11,10 @@ from collections import Counter
 from dataclasses import dataclass
 
 import probe
+import twinned
 from second import examples, tables
 from second.lines import line_of
+from second.twins import Twins, kind_of
 
 SEED = 2
 TABLES = 2400
@@ -37,12 +40,6 @@ def some_plan(rng, width):
     if style < 0.98:
         return tables.good_plan(rng, width, conditions_often=0.5)
     return tables.small_entries_plan(rng, width, rng.choice([100, 256]))
-
-
-def bad_words(rng, plan):
-    """The plan's words with one damage (1 to 4 come before every other number)."""
-    laid = tables.lay_out(plan)
-    return tables.damaged(laid.words, tables.some_damage(rng, laid))
 
 
 # ---------------------------------------------------------------------------- questions
@@ -137,7 +134,8 @@ def random_cases(rng):
     for index in range(TABLES):
         plan = some_plan(rng, 1 + index % 32)
         bad = rng.random() < 0.12
-        words = bad_words(rng, plan) if bad else tables.lay_out(plan).words
+        # 1 to 4 come before every other number.
+        words = tables.some_damaged(rng, plan) if bad else tables.lay_out(plan).words
         for name, question in questions_on(rng, plan, words, buffer_lengths(index)):
             yield Case(name, None if bad else plan, question)
 
@@ -229,6 +227,8 @@ def count(case, answer, tally):
             tally["fields written"] += 1
     if case.plan is not None:
         tally[f"width {case.plan.width}"] += 1
+    if answer.number in (2, 3, 4):
+        tally[f"kind {kind_of(case.question[1])}, faulty"] += 1
 
 
 LEAST = {
@@ -242,6 +242,7 @@ LEAST = {
     "round trip of decode": 800, "round trip of encode": 800, "round trip to a longer entry": 10,
     **{f"buffer of {length}": 100 for length in range(13)},
     **{f"width {width}": 200 for width in range(1, 33)},
+    "kind 1, faulty": 800, "kind 6, faulty": 800, "twins": 20000, "twins by the second": 1000,
 }
 
 
@@ -261,10 +262,12 @@ def main():
         answers.append(taken_apart(seen))
         count(case, answers[-1], tally)
     check_round_trips(path, cases, answers, tally)
+    twinned.compare(path, Twins(SEED), [(case.name, case.question, seen) for case, seen in zip(cases, lines)], tally)
     probe.require_enough(tally, LEAST)
     kinds = "; ".join(summary(tally, kind) for kind in ("lookup", "decode", "encode"))
     trips = tally["round trip of decode"] + tally["round trip of encode"]
-    print(f"compare_selection good: {TABLES} tables, {len(cases)} questions; {kinds}; round trips: {trips}")
+    print(f"compare_selection good: {TABLES} tables, {len(cases)} questions; {kinds}; round trips: {trips}; "
+          f"questions to twins: {tally['twins']}")
 
 
 if __name__ == "__main__":

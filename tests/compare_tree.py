@@ -1,6 +1,6 @@
 """Compares requests 3, 4, 10 and 11 of probe (generate, the walk exported to C, walk on words, the mask exported to C) with the
-second implementation, line for line; then checks probe's own trees against probe's own lookups, and its masks against its counts
-and against each other, without the second one.
+second implementation, line for line; then generates from twins of the other kind, and checks probe's own trees against probe's own
+lookups, and its masks against its counts and against each other, without the second one.
 
 Usage: compare_tree.py [path of probe]. Exits with status 1 at the first difference.
 """
@@ -12,10 +12,12 @@ from dataclasses import dataclass
 
 import masks
 import probe
+import twinned
 from second import examples, selection, tables, trees
 from second.lines import line_of
 from second.reader import Refusal, read
 from second.tree import MOST_TREE_WORDS, nodes_of
+from second.twins import Twins, kind_of
 
 SEED = 3
 MASK_SEED = 301         # words that agree on a mask; the other draws don't depend on them
@@ -79,8 +81,7 @@ def usual_tables(rng):
 def refused_tables(rng):
     """1 to 4 come before 5 and 6, and leave the buffer as it was."""
     for index in range(300):
-        laid = tables.lay_out(some_plan(rng, 1 + index % 32))
-        words = tables.damaged(laid.words, tables.some_damage(rng, laid))
+        words = tables.some_damaged(rng, some_plan(rng, 1 + index % 32))
         yield Case("refused table", None, ("generate", words, random_buffer(rng, rng.choice([0, 1, 2, 9, 40]))))
     laid = tables.lay_out(tables.nested_plan(rng, 8))
     words = tables.damaged(laid.words, tables.too_long(rng, laid))
@@ -136,13 +137,16 @@ def compare_generating(path, rng, tally):
     for source in (hand_written(), usual_tables(rng), refused_tables(rng), tables_at_the_limit(rng), large_random_trees(rng)):
         cases += source
     generated = {}
-    for case, seen in zip(cases, probe.ask(path, [case.question for case in cases]), strict=True):
+    lines = probe.ask(path, [case.question for case in cases])
+    for case, seen in zip(cases, lines, strict=True):
         probe.stop_at_difference(case.name, case.question, line_of(case.question), seen)
         _, words, buffer = case.question
         front, _, back = seen.partition(" |")
         parts = front.split(" ")
         tally["generate " + (parts[1] if parts[1] != "0" else "answered")] += 1
         tally["generating, " + case.name] += 1
+        if parts[1] in ("2", "3", "4"):
+            tally[f"kind {kind_of(words)}, faulty"] += 1
         if case.plan is not None:
             tally[f"width {case.plan.width}"] += 1
         if parts[1] == "6" and parts[3] != "00000000":
@@ -152,6 +156,7 @@ def compare_generating(path, rng, tally):
             length = int(parts[4])
             generated[tuple(words)] = (case.plan, words, after[:length], after[length:])
             tally["generated exactly" if length == len(buffer) else "generated with words left"] += 1
+    twinned.compare(path, Twins(SEED), [(case.name, case.question, seen) for case, seen in zip(cases, lines)], tally)
     return list(generated.values())
 
 
@@ -384,7 +389,8 @@ def compare_other_trees(path, rng, generated, tally):
 
 LEAST = {
     "generate answered": 1500, "generate 5": 1500, "generate 6": 400, "ambiguous, not word 0": 300,
-    "generate 1": 10, "generate 2": 80, "generate 3": 10, "generate 4": 50,
+    "generate 1": 10, "generate 2": 80, "generate 3": 10, "generate 4": 50, "kind 1, faulty": 80, "kind 6, faulty": 80,
+    "twins": 7000, "twins by the second": 350,
     "generated exactly": 600, "generated with words left": 600,
     "generating, at the limit": 16, "generating, one test over": 8, "generating, far over": 9,
     "generating, large random tree": 16, "generating, full tree": 33,
@@ -416,7 +422,8 @@ def main():
     generate = ", ".join(f"{one}: {tally[f'generate {one}']}" for one in ("answered", "1", "2", "3", "4", "5", "6"))
     walk = ", ".join(f"{one}: {tally[f'walk {one}']}" for one in ("entry", "nothing", "7", "8", "9"))
     twice = tally["request 4, a bit tested twice"] + tally["request 10, a bit tested twice"]
-    print(f"compare_tree good: {TABLES} random tables, {len(generated)} trees; generate {generate}; walk {walk}; "
+    print(f"compare_tree good: {TABLES} random tables, {len(generated)} trees; generate {generate}; from twins: {tally['twins']}; "
+          f"walk {walk}; "
           f"masks by request 11: {tally['request 11']}, {twice} walks test a bit twice; {tally['trees with every word']} trees "
           f"with every word: {tally['words of these trees']}; {tally['words that agree']} other words that agree on a mask")
 

@@ -12,7 +12,8 @@ Each table is looked up with all words and two that are too high, generated into
 many as its tree has and one fewer; its tree is checked and walked with all words, and each walk's count is the number of ones in
 its mask. It is sized: refused as it is generated into 16 words, else with one node fewer than words, and with the greatest count of
 these walks. Tables without conditions are also checked with all trees of one and three nodes (two entries: a part of them but for
-the long form). At the end mistakes are put into the second implementation one by one, and each must give another line somewhere.
+the long form). The same is asked of a twin of each table, which has cycles. At the end mistakes are put into the second
+implementation one by one, and each must give another line somewhere.
 """
 
 import itertools
@@ -22,10 +23,12 @@ from collections import Counter
 
 import masks
 import probe
-from second import checker, measure, selection, tree, walk, wrong_masks, wrong_sizes
+import twinned
+from second import checker, measure, selection, tree, walk, wrong_cycles, wrong_masks, wrong_sizes
 from second.lines import line_of
 from second.reader import Refusal
 from second.tables import EntryPlan, TablePlan, free_runs, lay_out, own_bits
+from second.twins import Twins
 
 WIDTH = 3
 LENGTHS = (1, 2, 3)
@@ -133,9 +136,10 @@ def check_size(name, question, seen, made, most):
 
 
 def compare(path, long):
-    tally = Counter()
+    tally, twins = Counter(), Twins(SEED)
     for group in in_groups(all_questions(long)):
         lines = probe.ask(path, [question for _, question in group])
+        twinned.compare(path, twins, [(*asked, seen) for asked, seen in zip(group, lines)], tally)
         for (name, question), seen in zip(group, lines, strict=True):
             expected = line_of(question)
             probe.stop_at_difference(name, question, expected, seen)
@@ -213,6 +217,7 @@ MISTAKES = [
     ("bits of all paths", "measure", wrong_sizes.bits_of_all_paths),
     ("words for nodes", "measure", wrong_sizes.words_for_nodes),
     ("6 without its word", "measure", wrong_sizes.word_left_out),
+    ("fewer cycles decide", "more_specific", wrong_cycles.fewer_cycles_win),
 ]
 MODULES = {"selection": selection, "tree": tree, "checker": checker, "walk": walk, "measure": measure}
 RIGHT = {(name, function): getattr(module, function) for name, module in MODULES.items() for _, function, _ in MISTAKES
@@ -248,6 +253,8 @@ def notice_mistakes():
     some = random.Random(SEED).sample(list(family(False)), SOME_TABLES)
     questions = [question for _, words in some for question in questions_of(words, with_small_trees=False)]
     questions += [("check", words, other) for _, words in some[:3] for other in small_trees(1)]
+    twins = Twins(SEED)
+    questions += [question for _, words in some for question in questions_of(twins.of(words), with_small_trees=False)]
     answered = [(question, line_of(question)) for question in questions]
     for what, function, mistake in MISTAKES:
         if not is_noticed(function, mistake, answered):
@@ -256,7 +263,8 @@ def notice_mistakes():
 
 
 LEAST = {"lookup 0": 50000, "lookup 6": 500, "lookup 7": 10000, "generate 0": 10000, "generate 5": 5000, "generate 6": 300,
-         "check 0": 5000, "check 14": 5000, "walk 0": 50000, "walk 7": 10000, "measure 0": 5000, "measure 6": 300}
+         "check 0": 5000, "check 14": 5000, "walk 0": 50000, "walk 7": 10000, "measure 0": 5000, "measure 6": 300,
+         "twins": 100000, "twins by the second": 5000}
 
 
 def main():
@@ -267,7 +275,8 @@ def main():
     noticed = notice_mistakes()
     tables = sum(1 for _ in family(long))
     counts = ", ".join(f"{name}: {tally[name]}" for name in ("lookup", "generate", "check", "walk", "measure"))
-    print(f"exhaustive good: {tables} tables, {tally['questions']} questions ({counts}); {noticed} of {len(MISTAKES)} mistakes noticed")
+    print(f"exhaustive good: {tables} tables, {tally['questions']} questions ({counts}), {tally['twins']} to twins; "
+          f"{noticed} of {len(MISTAKES)} mistakes noticed")
 
 
 if __name__ == "__main__":

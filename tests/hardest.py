@@ -1,6 +1,6 @@
 """Runs mktree on the hardest tables that are allowed: the largest tables, every condition open in every cell, trees at
 the limit of 16,384 words, and trees that would have 2^32 leaves; probe sizes them. The outcomes follow from how the tables are
-built; the second implementation isn't used.
+built, and are the same with cycles; the second implementation isn't used.
 
 Usage: hardest.py [path of probe [path of mktree]]. Exits with status 1 if an outcome is wrong, if sizing takes much more of the
 processor's time than making the tree, or if running.py stops a run because of that time. The other times that it prints are no
@@ -15,7 +15,7 @@ import mktree
 import probe
 from probe import pack
 from second import tables
-from second.tables import ALL_BITS, MOST_WORDS, EntryPlan, TablePlan, span
+from second.tables import ALL_BITS, MOST_WORDS, PLAIN, WITH_CYCLES, EntryPlan, TablePlan, span
 
 SEED = 6
 MOST_ENTRIES = 256
@@ -54,12 +54,12 @@ def deciding_entry(rng, high_bit, depth):
     return EntryPlan(rng.randrange(4096), WIDTH, mask, mask if high_bit else 0, [(0, 31)], conditions)
 
 
-def everything_open(rng, depth, deciding=True):
+def everything_open(rng, kind, depth, deciding=True):
     """16,384 words, 256 entries: 254 that match every word, with as many conditions as there is room for, and the two that
     decide. Without these two no cell is ever decided before the lowest bit is tested."""
     last = [deciding_entry(rng, 0, depth), deciding_entry(rng, 1, depth)] if deciding else []
     entries = [EntryPlan(0, WIDTH, 0, 0, [(0, WIDTH)]) for _ in range(MOST_ENTRIES - len(last))]
-    room = MOST_WORDS - len(tables.lay_out(TablePlan(WIDTH, entries + last)).words)
+    room = MOST_WORDS - len(tables.lay_out(TablePlan(WIDTH, entries + last), kind).words)
     for turn in range(room // CONDITION_WORDS):
         entries[turn % len(entries)].conditions.append(never_decided(rng, depth))
     # What is left is filled with words of patterns: three each, but the last one or two words.
@@ -110,12 +110,14 @@ def tree_of_many_sure():
     return "".join(f"{at} {word:08x}\n" for at, word in enumerate(words))
 
 
-def cases(rng):
+def cases(rng, kind):
     """(name, plan, what mktree must print, words if the table is of a certain length)"""
-    yield "everything open, a tree at the limit", everything_open(rng, 13), tree_at_the_limit(254, 255), MOST_WORDS
-    yield "everything open, twice the limit", everything_open(rng, 14), NOT_FITTING, MOST_WORDS
-    yield "everything open, 2^31 leaves", everything_open(rng, 31), NOT_FITTING, MOST_WORDS
-    yield "everything open, nothing decides", everything_open(rng, 16, deciding=False), NOT_FITTING, MOST_WORDS
+    yield "everything open, a tree at the limit", everything_open(rng, kind, 13), tree_at_the_limit(254, 255), MOST_WORDS
+    if kind == PLAIN:
+        # With cycles the next one stands for these: they take long.
+        yield "everything open, twice the limit", everything_open(rng, kind, 14), NOT_FITTING, MOST_WORDS
+        yield "everything open, 2^31 leaves", everything_open(rng, kind, 31), NOT_FITTING, MOST_WORDS
+    yield "everything open, nothing decides", everything_open(rng, kind, 16, deciding=False), NOT_FITTING, MOST_WORDS
     yield "many sure, a tree at the limit", many_sure(rng, 13), tree_of_many_sure(), None
     yield "many sure, 2^32 leaves", many_sure(rng, 32), NOT_FITTING, None
     yield "one entry, 2^32 leaves", tables.full_tree_plan(rng, 32, 32), NOT_FITTING, None
@@ -139,13 +141,21 @@ def spent(run):
     return given, after.ru_utime - before.ru_utime + after.ru_stime - before.ru_stime
 
 
+def all_cases():
+    """(name, words of the table, number of entries, what mktree must print)"""
+    rng = random.Random(SEED)
+    for kind in (PLAIN, WITH_CYCLES):
+        for name, plan, expected, length in cases(rng, kind):
+            words = tables.lay_out(tables.with_cycles(rng, plan), kind).words
+            if len(plan.entries) > MOST_ENTRIES or len(words) > MOST_WORDS or length not in (None, len(words)):
+                sys.exit(f"{name}: {len(plan.entries)} entries, {len(words)} words")
+            yield name + (", with cycles" if kind == WITH_CYCLES else ""), words, len(plan.entries), expected
+
+
 def main():
     probe_path, path = probe.path_from_arguments(), mktree.path_from_arguments(2)
-    times = []
-    for name, plan, expected, length in cases(random.Random(SEED)):
-        words = tables.lay_out(plan).words
-        if len(plan.entries) > MOST_ENTRIES or len(words) > MOST_WORDS or length not in (None, len(words)):
-            sys.exit(f"{name}: {len(plan.entries)} entries, {len(words)} words")
+    times, with_cycles = [], 0
+    for name, words, entries, expected in all_cases():
         seen, taken = spent(lambda: mktree.text_of(path, pack(words)))
         mktree.stop_at_difference(name, pack(words), expected, seen)
         question = "measure", words
@@ -153,10 +163,14 @@ def main():
         probe.stop_at_difference(name, question, expected_size(expected), line)
         if sizing > 2 * taken + 0.2:
             sys.exit(f"{name}: sizing took {sizing:.2f} s, mktree {taken:.2f} s")
-        print(f"{taken:6.2f} s, sizing {sizing:.2f} s  {name} ({len(words)} words, {len(plan.entries)} entries)", flush=True)
+        print(f"{taken:6.2f} s, sizing {sizing:.2f} s  {name} ({len(words)} words, {entries} entries)", flush=True)
         times.append((taken, sizing))
+        with_cycles += words[0] >> 28 == WITH_CYCLES
+    if len(times) - with_cycles != 9 or with_cycles != 7:
+        sys.exit(f"only {len(times)} tables, {with_cycles} of them with cycles")
     trees, sizes = zip(*times)
-    print(f"hardest good: {len(times)} tables, the longest took {max(trees):.2f} s, the longest sizing {max(sizes):.2f} s")
+    print(f"hardest good: {len(times)} tables, {with_cycles} of them with cycles; the longest took {max(trees):.2f} s, the longest sizing "
+          f"{max(sizes):.2f} s")
 
 
 if __name__ == "__main__":

@@ -37,15 +37,15 @@ def part_of(value):
 
 # The requests in the order of their numbers, from 1, and what a call takes from each part: words, bytes or a number.
 FORMS = {"read": "W", "lookup": "WN", "generate": "WW", "walk bytes": "BN", "decode": "WNW", "encode": "WNW", "check": "WW",
-         "step": "WWBN", "list": "WWBW", "walk": "WN", "mask": "BN", "measure": "W"}
+         "step": "WWBN", "list": "WWBW", "walk": "WN", "mask": "BN", "measure": "W", "cycles": "WN"}
 NAMES = list(FORMS)
 
 
 def request_bytes(question):
     """A request. A question is ("read", table), ("lookup", table, word), ("generate", table, buffer),
     ("walk bytes", bytes, word), ("decode", table, word, buffer), ("encode", table, entry, values), ("check", table, tree),
-    ("step", table, tree, image, address), ("list", table, tree, image, buffer), ("walk", tree, word), ("mask", bytes, word) or
-    ("measure", table)."""
+    ("step", table, tree, image, address), ("list", table, tree, image, buffer), ("walk", tree, word), ("mask", bytes, word),
+    ("measure", table) or ("cycles", table, entry)."""
     name, *parts = question
     return pack([NAMES.index(name) + 1, len(parts)]) + b"".join(part_bytes(part) for part in parts)
 

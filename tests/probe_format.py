@@ -9,6 +9,7 @@ import sys
 import probe
 
 PRINTED = [0x10010002, 0x20050210, 0x00000002, 0x00000002, 0x30000001]
+CYCLES = [0x60010002, 0x20050210, 0x00000002, 0x00000002, 0x0000004D, 0x30000001]
 GOOD = [1, 1, 20, *PRINTED]         # eight words
 GOOD_LINE = "1 0 0 00000000 2 1"
 EMPTY = [1, 1, 0]                   # three words: a part of no bytes, the empty table
@@ -75,6 +76,7 @@ def parts_not_taken():
         yield f"{extra} parts, the last cut", bytes_of([1, 1 + extra, *table, *strange * extra])[:-1], ["stopped 0"]
     yield "a buffer after the buffer", asked(3, [], EIGHT[:2], EIGHT), ["3 1 0 00000000 | 11111111 22222222"]
     yield "a buffer after a table to size", asked(12, PRINTED, EIGHT), ["12 0 0 00000000 3 1"]
+    yield "a buffer after an entry", asked(13, CYCLES, 0, EIGHT), ["13 0 0 00000000 77"]
 
 
 def parts_not_there():
@@ -93,6 +95,8 @@ def parts_not_there():
     yield "mask, no parts", bytes_of([11, 0]), ["11 0 0 00000000 00000000"]
     yield "mask, no word", bytes_of([11, 1, *probe.part_of(TREE)]), ["11 0 0 00000000 00000002"]
     yield "sizing, no parts", bytes_of([12, 0]), ["12 1 0 00000000"]
+    yield "cycles, no parts", bytes_of([13, 0]), ["13 1 0 00000000"]
+    yield "cycles, no entry", bytes_of([13, 1, *probe.part_of(CYCLES)]), ["13 0 0 00000000 77"]
     # what comes next in the input is no part of it
     yield "nothing is taken from the next request", bytes_of([2, 1, *printed, *GOOD]), ["2 0 0 00000000 nothing", GOOD_LINE]
     yield "no table is taken from the next request", bytes_of([12, 0, *GOOD]), ["12 1 0 00000000", GOOD_LINE]
@@ -106,6 +110,7 @@ def words_of_parts():
         yield "a table, " + what, asked(1, probe.pack(PRINTED) + rest), [GOOD_LINE]
         yield "a table of no word, " + what, asked(1, rest), [EMPTY_LINE]
         yield "a table to size, " + what, asked(12, probe.pack(PRINTED) + rest), ["12 0 0 00000000 3 1"]
+        yield "a table for its cycles, " + what, asked(13, probe.pack(CYCLES) + rest, 0), ["13 0 0 00000000 77"]
         yield "a buffer, " + what, asked(5, PRINTED, 0, probe.pack(EIGHT) + rest), ["5 0 0 00000000 nothing | " + EIGHT_TEXT]
         yield "a buffer of no word, " + what, asked(3, [], rest), ["3 1 0 00000000 |"]
         yield "values, " + what, asked(6, PRINTED, 0, probe.pack([1]) + rest), ["6 0 0 00000000 00000003"]
@@ -127,6 +132,8 @@ def numbers():
     yield "a number is 32 bits", asked(2, PRINTED, 0x80000003), ["2 7 0 00000000"]
     yield "a word for its mask is 32 bits", asked(11, TREE, 0x80000003), ["11 0 0 00000000 00000000"]
     yield "an entry is 32 bits", asked(6, PRINTED, 0x80000000, [1]), ["6 11 0 00000000"]
+    yield "an entry for its cycles is 32 bits", asked(13, CYCLES, 0x80000000), ["13 11 0 00000000"]
+    yield "an entry for its cycles is the first word", asked(13, CYCLES, [1, 0]), ["13 11 0 00000000"]
     yield "an address is 32 bits", asked(8, [0x10000020], [0x70200001, 0xA0000000], b"\0\0", 0x80000000), ["8 0 0 00000000 end"]
 
 

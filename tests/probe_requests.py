@@ -1,4 +1,4 @@
-"""Tests of requests 2 to 12 as a whole (docs/probe.md): cut after each word, lengths too large, trailing bytes, parts left out
+"""Tests of requests 2 to 13 as a whole (docs/probe.md): cut after each word, lengths too large, trailing bytes, parts left out
 and added, and lines longer than probe's page. Whole requests get the second implementation's line.
 
 Usage: probe_requests.py [path of probe]. Exits with status 1 at the first difference. It stands beside probe.py.
@@ -10,6 +10,7 @@ import probe
 from second.lines import line_of
 
 PRINTED = [0x10010002, 0x20050210, 0x00000002, 0x00000002, 0x30000001]
+CYCLES = [0x60010002, 0x20050210, 0x00000002, 0x00000002, 0x0000004D, 0x30000001]
 TREE = [0x70020003, 0x80800003, 0xA0000000, 0x90000000]
 TWIN = [0x20000100, 0x00000001, 0x00000001]                                   # width 1, the entry 1: ambiguous if it is there twice
 EIGHT = [0x11111111 * k for k in range(1, 9)]
@@ -33,6 +34,7 @@ QUESTIONS = [
     ("list", IMAGE_TABLE, IMAGE_TREE, IMAGE[:3], EIGHT[:2]), ("list", IMAGE_TABLE, IMAGE_TREE, b"", []),
     ("list", [], [], b"", []),
     ("measure", PRINTED), ("measure", PRINTED[:4]), ("measure", [0x10020001, *TWIN, *TWIN]), ("measure", []),
+    ("cycles", CYCLES, 0), ("cycles", CYCLES, 0xFFFFFFFF), ("cycles", CYCLES[:4], 0), ("cycles", PRINTED, 0), ("cycles", [], 0),
 ]
 TOO_LARGE = (0x100, 262144, 0x3FFFFFFF, 0x40000000, 0x40000005, 0x7FFFFFFF, 0x80000000, 0xFFFFFFFA, 0xFFFFFFFB, 0xFFFFFFFC,
              0xFFFFFFFD, 0xFFFFFFFE, 0xFFFFFFFF)

@@ -1,19 +1,29 @@
-"""The examples that document 01 lists under "Run" and under mktree, as far as trees are concerned. Every expected line
-is written out here or follows from a rule written here; the second implementation isn't used.
+"""The examples that document 01 lists under "Run" and under mktree, as far as trees are concerned, and tables with cycles. Every
+expected line is written out here or follows from a rule written here; the second implementation isn't used. Each good table is
+asked again as its twin of the other kind.
 
 Usage: run_examples.py [path of probe [path of mktree]]. Exits with status 1 at the first difference.
 """
 
+from collections import Counter
+
 import mktree
 import probe
-from second.examples import MARKED, PRINTED, PRINTED_TEXT, TREE_EXAMPLES, WITH_THIRD, WITH_THIRD_TREE, WORKED, ZERO_HIGH_ZERO_LOW
+import twinned
+from second.examples import CYCLES_77, CYCLES_EXAMPLES, MARKED, PRINTED, PRINTED_TEXT, TREE_EXAMPLES, WITH_THIRD, WITH_THIRD_TREE, WORKED, \
+    ZERO_HIGH_ZERO_LOW
+from second.twins import Twins
+
+TWINS = Twins(16)
 
 
-def check_lines(path):
-    """Width 3 with 0-- and --0, and with 0-0 added; the printed and the worked table; walks by hand."""
-    lines = probe.ask(path, [question for _, question, _ in TREE_EXAMPLES])
-    for (name, question, expected), seen in zip(TREE_EXAMPLES, lines, strict=True):
+def check_lines(path, tally):
+    """Width 3 with 0-- and --0, and with 0-0 added; the printed and the worked table, also with cycles; walks by hand."""
+    examples = TREE_EXAMPLES + CYCLES_EXAMPLES
+    lines = probe.ask(path, [question for _, question, _ in examples])
+    for (name, question, expected), seen in zip(examples, lines, strict=True):
         probe.stop_at_difference(name, question, expected, seen)
+    twinned.compare(path, TWINS, examples, tally, second_each=0)
     return len(lines)
 
 
@@ -44,7 +54,7 @@ def full_tree(bit, first, index):
         + full_tree(bit - 1, first + 2 ** bit, index + 1 + size)
 
 
-def check_mktree(path):
+def check_mktree(path, tally):
     """"256 entries pass, 257 give 1", and the printed example byte for byte."""
     full = [0x70080000 | 511] + full_tree(7, 0, 1)
     cases = [("the printed example", probe.pack(PRINTED), PRINTED_TEXT),
@@ -59,18 +69,24 @@ def check_mktree(path):
              ("twins", probe.pack([0x10020002, *PRINTED[1:], *PRINTED[1:]]), "refused 6 0 00000002\n"),
              ("cut by a word", probe.pack(PRINTED[:4]), "refused 2 4 00000000\n"),
              ("cut by a byte", probe.pack(PRINTED)[:-1], "refused 1 0 00000000\n"),
-             ("no entries", probe.pack([0x10000020]), "0 70200001\n1 a0000000\n")]
+             ("no entries", probe.pack([0x10000020]), "0 70200001\n1 a0000000\n"),
+             ("77 cycles", probe.pack(CYCLES_77), PRINTED_TEXT),
+             ("257 entries said, with cycles", probe.pack([0x61010008] + all_of_eight_bits(256)[1:]), "refused 1 0 00000000\n"),
+             ("cut before the cycles", probe.pack(CYCLES_77[:4]), "refused 2 4 00000000\n")]
     for name, data, expected in cases:
         mktree.stop_at_difference(name, data, expected, mktree.text_of(path, data))
+        twinned.compare_text(path, TWINS, name, data, expected, tally)
     return len(cases)
 
 
 def main():
     probe_path, mktree_path = probe.path_from_arguments(), mktree.path_from_arguments(2)
-    lines = check_lines(probe_path)
+    tally = Counter()
+    lines = check_lines(probe_path, tally)
     walked = check_worked(probe_path)
-    printed = check_mktree(mktree_path)
-    print(f"run_examples good: {lines} lines of probe, {walked} marked words, {printed} inputs of mktree")
+    printed = check_mktree(mktree_path, tally)
+    probe.require_enough(tally, {"twins": 55})
+    print(f"run_examples good: {lines} lines of probe, {walked} marked words, {printed} inputs of mktree, {tally['twins']} of twins")
 
 
 if __name__ == "__main__":

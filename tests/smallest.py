@@ -21,14 +21,14 @@ from second.lines import line_of, mktree_text
 
 PAGE = "TABLES.md"
 
-# Document 01, "Causes, numbers, places": what each row lists in words, and the calls that give it. A comment in the page is a number and one
-# of these.
+# Document 01, "Causes, numbers, places": what each row lists in words, and the calls that give it; of cycles document 02's No. 3. A
+# comment in the page is a number and one of these.
 FAULTS = {
     1: ["empty", "too long", "too long, reading", "first word, kind", "first word, spare bit", "first word, 257 entries", "first word, width 0",
         "first word, width 33", "bytes that are not whole words"],
     2: ["wrong kind, entry", "wrong kind, field", "wrong kind, condition", "wrong kind, unmatching pattern", "spare bit, field", "spare bit, condition",
         "spare bit, unmatching pattern", "count, 9 fields", "count, 9 conditions", "count, 9 unmatching patterns", "entry length, 0",
-        "entry length, over the width", "table ends early", "words left over"],
+        "entry length, over the width", "table ends early", "words left over", "cycles over 65,535", "table ends before the cycles"],
     3: ["mask outside own bits, above the width", "mask outside own bits, below a short entry", "mask outside own bits, condition",
         "mask outside own bits, unmatching pattern", "value outside its mask", "value outside its mask, condition",
         "value outside its mask, unmatching pattern"],
@@ -42,7 +42,7 @@ FAULTS = {
     9: ["kind, below 8", "kind, above 10", "spare bit, test", "spare bit, entry", "spare bit, nothing", "tested bit at the width",
         "one side below own + 2", "one side above the number of nodes", "kind, for C"],
     10: ["7 words", "no words"],
-    11: ["no such entry", "too few values", "too many values"],
+    11: ["no such entry", "too few values", "too many values", "no such entry, cycles"],
     12: ["value does not fit", "value does not fit, the second"],
     13: ["selects another entry", "selects nothing", "ambiguous"],
     14: ["header", "widths", "damaged node", "one side not where the zero side ends", "a node not used", "a bit twice", "named entry, still open",
@@ -60,7 +60,7 @@ WORDS = {6, 13}
 FAULTY_TABLE = [1, 2, 3, 4]
 ALLOWED = {1: FAULTY_TABLE, 2: FAULTY_TABLE + [7, 6], 3: FAULTY_TABLE + [5, 6], 4: [8, 7, 9], 5: FAULTY_TABLE + [10, 7, 6],
            6: FAULTY_TABLE + [11, 12, 13], 7: FAULTY_TABLE + [14], 8: FAULTY_TABLE + [15, 16, 14], 9: FAULTY_TABLE + [15, 16, 14, 17],
-           10: [8, 7, 9], 12: FAULTY_TABLE + [5, 6]}
+           10: [8, 7, 9], 12: FAULTY_TABLE + [5, 6], 13: FAULTY_TABLE + [11]}
 GENERATE, FOR_C, DECODE, LIST = 3, 4, 5, 9
 MOST_TREE_WORDS = 16384
 
@@ -211,7 +211,7 @@ def table_questions(words):
     """Every call that takes a table, with other faults beside the table's, which come later."""
     return [("read", words), ("lookup", words, 0xFFFFFFFF), ("generate", words, MARKS[:3]), ("decode", words, 0xFFFFFFFF, MARKS[:7]),
             ("encode", words, 999, [7]), ("check", words, []), ("step", words, [], b"\x00", 9), ("list", words, [], b"\x00", MARKS[:2]),
-            ("measure", words)]
+            ("measure", words), ("cycles", words, 999)]
 
 
 def mktree_cases(path, command, cause, data):

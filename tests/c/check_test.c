@@ -5,22 +5,19 @@
  * With -DSTAND_IN there is no library: kilnumber_check then gives back what the file has, and with -DWRONG=1 and so on that answer
  * wrong in one way, to show that the test notices.
  *
- * Table and tree lie directly before a page that can't be read, so a library that reads past the end breaks off.
+ * Table and tree lie directly before a page that can't be touched. They must be the same afterwards.
  */
 
 #define _DEFAULT_SOURCE
 #include <stdio.h>
 #include <stdlib.h>
-#include <string.h>
-#include <sys/mman.h>
-#include <unistd.h>
 
 #include "kilnumber.h"
 
 #define TEST "check_test"
 #include "words_file.h"
 
-#define MOST_WORDS 16400u
+#include "lending.h"
 
 /* ------------------------------------------------------------------------- stand-in for the library */
 
@@ -31,7 +28,6 @@
 static uint32_t standing_number, standing_place;
 
 uint64_t kilnumber_check(const uint32_t *table, size_t table_words, const uint32_t *tree, size_t tree_words) {
-    (void)table, (void)table_words, (void)tree, (void)tree_words;
     uint64_t number = standing_number, place = standing_place;
     if (WRONG == 1) return 0;                                                 /* 1: yes always */
     if (WRONG == 2 && number == 0) number = 14;                               /* 2: no always */
@@ -40,44 +36,40 @@ uint64_t kilnumber_check(const uint32_t *table, size_t table_words, const uint32
     if (WRONG == 5 && number == 14) return number << 32 | 1;                  /* 5: a place with 14 */
     if (WRONG == 6 && number >= 1 && number <= 4) number = 14;                /* 6: a table's faults are no */
     if (WRONG == 7 && number == 4) number = 3;                                /* 7: 4 is taken for 3 */
+    if (WRONG == 8 && table_words > 0) ((volatile uint32_t *)(uintptr_t)table)[0] ^= 1; /* 8: the table is written */
+    if (WRONG == 9 && tree_words > 0) ((volatile uint32_t *)(uintptr_t)tree)[0] ^= 1;   /* 9: the tree is written */
+    if (WRONG == 10 && ((const volatile uint32_t *)tree)[tree_words] == 0) return 0;    /* 10: a word after it is read */
     return number << 32 | place;
 }
 #endif
 
-/* ------------------------------------------------------------------------- what is lent */
-
-static uint32_t *make_room(void) {
-    size_t page = (size_t)sysconf(_SC_PAGESIZE), room = (4u * MOST_WORDS + page - 1) / page * page;
-    uint8_t *start = (uint8_t *)mmap(NULL, room + page, PROT_READ | PROT_WRITE, MAP_PRIVATE | MAP_ANONYMOUS, -1, 0);
-    if (start == MAP_FAILED || mprotect(start + room, page, PROT_NONE) != 0) stop("no memory");
-    return (uint32_t *)(void *)(start + room);
-}
-
-static const uint32_t *lend(uint32_t *guard, const uint32_t *words, size_t count) {
-    if (count > 0) memcpy(guard - count, words, 4 * count);
-    return guard - count;
-}
-
 /* ------------------------------------------------------------------------- the comparison */
 
-static unsigned by_number[18];
+static struct room table_room, tree_room;
+static unsigned by_number[18], of_kind_6;
 
 static void compare(const uint32_t *table, size_t table_words, const uint32_t *tree, size_t tree_words, uint32_t number,
                     uint32_t place) {
+    const uint32_t *lent_table = lend(table_room, table, table_words, 0), *lent_tree = lend(tree_room, tree, tree_words, 0);
     uint64_t expected = (uint64_t)number << 32 | place;
-    uint64_t seen = kilnumber_check(table, table_words, tree, tree_words);
+    uint64_t seen = kilnumber_check(lent_table, table_words, lent_tree, tree_words);
     if (seen != expected || kilnumber_number(seen) != number || kilnumber_list_place(seen) != place) {
         printf("difference: %zu table words, %zu tree words: expected %016llx, seen %016llx\n", table_words, tree_words,
                (unsigned long long)expected, (unsigned long long)seen);
         exit(1);
     }
+    require_unchanged(lent_table, table, table_words);
+    require_unchanged(lent_tree, tree, tree_words);
     by_number[number]++;
+    of_kind_6 += number == 0 && table[0] >> 28 == 6;
 }
 
 int main(int arguments, char **argument) {
     if (arguments != 2) stop("usage: check_test file");
     size_t count, at = 1;
-    uint32_t *words = read_words(argument[1], &count), *table_guard = make_room(), *tree_guard = make_room();
+    uint32_t *words = read_words(argument[1], &count);
+    table_room = make_room();
+    tree_room = make_room();
     for (uint32_t turn = 0; turn < words[0]; turn++) {
         if (at + 3 > count || words[at + 2] > MOST_WORDS || at + 3 + words[at + 2] >= count) stop("the file is not whole");
         uint32_t number = words[at], place = words[at + 1], table_words = words[at + 2];
@@ -88,7 +80,7 @@ int main(int arguments, char **argument) {
 #ifdef STAND_IN
         standing_number = number, standing_place = place;
 #endif
-        compare(lend(table_guard, table, table_words), table_words, lend(tree_guard, words + at + 1, tree_words), tree_words, number, place);
+        compare(table, table_words, words + at + 1, tree_words, number, place);
         at += 1 + tree_words;
     }
     if (at != count) stop("the file is not whole");
@@ -98,6 +90,7 @@ int main(int arguments, char **argument) {
         printf(" number %u: %u%s", numbers[one], by_number[numbers[one]], one < 5 ? "," : "\n");
         if (by_number[numbers[one]] < 50) stop("too few of a number");
     }
+    if (of_kind_6 < 50) stop("too few of kind 6");
     free(words);
     return 0;
 }

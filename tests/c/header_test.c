@@ -1,8 +1,9 @@
 /*
  * The header's names, accessors and helpers; compiled as C and as C++, linked with the library. Every number here is from
- * documents 01 and 02, and not taken from the header; where a size has its parts is from docs/FORMAT.md.
+ * documents 01 and 02, and not taken from the header; where a size and cycles have their parts is from docs/FORMAT.md.
  *
- * The table: width 32, entry 0 of 16 bits `1...`, entry 1 of 32 bits `01..`. Its tree tests bit 31, then bit 30.
+ * The table: width 32, entry 0 of 16 bits `1...`, entry 1 of 32 bits `01..`. Its tree tests bit 31, then bit 30. The one with cycles:
+ * the same, 77 and 65,535 of them.
  * The ambiguous one: width 3, `1--` and `--1`. The large one: width 32, one entry whose condition looks at every bit.
  */
 
@@ -15,6 +16,8 @@
 static const uint32_t table[] = {0x10020020, 0x20001010, 0x80000000, 0x80000000, 0x3000100f,
                                  0x20012010, 0xc0000000, 0x40000000, 0x3000001e};
 static const uint8_t tree_bytes[] = {5, 0, 0x20, 0x70, 5, 0, 0x80, 0x8f, 4, 0, 0, 0x8f, 0, 0, 0, 0xa0, 1, 0, 0, 0x90, 0, 0, 0, 0x90};
+static const uint32_t with_cycles[] = {0x60020020, 0x20001010, 0x80000000, 0x80000000, 77, 0x3000100f,
+                                       0x20012010, 0xc0000000, 0x40000000, 65535, 0x3000001e};
 #define TREE_WORDS (sizeof tree_bytes / 4)
 static const uint32_t ambiguous[] = {0x10020003, 0x20000310, 4, 4, 0x30000002, 0x20000310, 1, 1, 0x30000102};
 static const uint32_t large[] = {0x10010020, 0x20002011, 0, 0, 0x30000020, 0x40000002, 1, 0, 0x50000000, 1, 0, 0x50000000, 0xffffffff, 1};
@@ -31,9 +34,9 @@ static void expect(const char *what, uint64_t seen, uint64_t wanted) {
 static void names(void) {
     static const int refusals[] = {KILNUMBER_NO_REFUSAL, KILNUMBER_TABLE_START, KILNUMBER_TABLE_WORD, KILNUMBER_TABLE_PATTERN,
                                    KILNUMBER_TABLE_FIELD, KILNUMBER_TREE_SIZE, KILNUMBER_AMBIGUOUS, KILNUMBER_HIGH_WORD,
-                                   KILNUMBER_TREE_HEADER, KILNUMBER_DAMAGED_NODE, KILNUMBER_WRONG_TREE, KILNUMBER_NO_IMAGE_TABLE,
-                                   KILNUMBER_BAD_IMAGE, KILNUMBER_NO_ROOM};
-    static const int numbers[] = {0, 1, 2, 3, 4, 5, 6, 7, 8, 9, 14, 15, 16, 17};
+                                   KILNUMBER_TREE_HEADER, KILNUMBER_DAMAGED_NODE, KILNUMBER_NO_ENTRY, KILNUMBER_WRONG_TREE,
+                                   KILNUMBER_NO_IMAGE_TABLE, KILNUMBER_BAD_IMAGE, KILNUMBER_NO_ROOM};
+    static const int numbers[] = {0, 1, 2, 3, 4, 5, 6, 7, 8, 9, 11, 14, 15, 16, 17};
     for (size_t at = 0; at < sizeof numbers / sizeof numbers[0]; at++)
         expect("a refusal's number", (uint64_t)refusals[at], (uint64_t)numbers[at]);
     expect("an item's kind", kilnumber_item_kind(0xc2a00005), KILNUMBER_INSTRUCTION);
@@ -109,6 +112,24 @@ static void list(const uint32_t *tree) {
     expect("the first left out", kilnumber_list_place(result), 2);
 }
 
+static void cycles(const uint32_t *tree) {
+    uint32_t other[11], high = 256;
+    memcpy(other, with_cycles, sizeof other);
+    other[9] = 65536;
+    uint64_t result = kilnumber_cycles(with_cycles, 11, 0);
+    expect("the cycles of entry 0", result, 77);
+    expect("how many they are", kilnumber_cycle_count(result), 77);
+    expect("the most cycles", kilnumber_cycle_count(kilnumber_cycles(with_cycles, 11, 1)), 65535);
+    expect("the cycles in a table without them", kilnumber_cycles(table, 9, 1), 0);
+    expect("number 11 alone", kilnumber_cycles(with_cycles, 11, 2), (uint64_t)KILNUMBER_NO_ENTRY << 32);
+    expect("an entry of more than eight bits", kilnumber_number(kilnumber_cycles(with_cycles, 11, high)), 11);
+    result = kilnumber_cycles(other, 11, 0);
+    expect("too many cycles", kilnumber_number(result), KILNUMBER_TABLE_WORD);
+    expect("their place", kilnumber_list_place(result), 9);
+    expect("the size of the tree does not depend on them", kilnumber_measure(with_cycles, 11), kilnumber_measure(table, 9));
+    expect("nor does the tree", kilnumber_check(with_cycles, 11, tree, TREE_WORDS), 0);
+}
+
 int main(void) {
     uint32_t tree[TREE_WORDS];
     names();
@@ -117,6 +138,7 @@ int main(void) {
     size();
     check(tree);
     list(tree);
+    cycles(tree);
     printf("header good: %u compared\n", compared);
     return 0;
 }

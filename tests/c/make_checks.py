@@ -29,7 +29,7 @@ def some_tables(rng):
     while True:
         width = width % 32 + 1
         plan = rng.choice([tables.nested_plan, tables.divided_plan])(rng, width)
-        words = tables.lay_out(plan).words
+        words = rng.choice(tables.lay_out_both(rng, plan)).words
         nodes = nodes_of(read(words), MOST_NODES)
         if nodes is not None and conflict_word(nodes) is None:
             yield words, written(width, nodes)

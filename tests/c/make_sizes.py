@@ -64,15 +64,20 @@ def size(words, most=MOST_TREE_WORDS - 1):
 
 # ---------------------------------------------------------------------------- tables
 
-def by_hand(rng):
-    """The tables of document 01 and of examples.py, those without entries, and those of data/."""
-    yield from (examples.PRINTED, examples.EVERY_KIND, examples.WORKED, examples.ZERO_HIGH_ZERO_LOW, examples.WITH_THIRD,
-                examples.MORE_MASK_BITS, examples.SHORT, examples.SHORT_AND_LONG, examples.EIGHT_UNMATCHING, examples.EIGHT_CONDITIONS)
-    yield []
-    yield from ([tables.first_word(0, width)] for width in range(34))
+def data_tables():
     for data in (file.read_bytes() for file in sorted((ROOT / "data").glob("*.table"))):
         if len(data) <= 4 * 16384:
             yield list(struct.unpack(f"<{len(data) // 4}I", data[:len(data) // 4 * 4]))
+
+
+def by_hand(rng):
+    """The tables of document 01 and of examples.py, those without entries, and those of data/."""
+    yield from (examples.PRINTED, examples.EVERY_KIND, examples.WORKED, examples.ZERO_HIGH_ZERO_LOW, examples.WITH_THIRD,
+                examples.MORE_MASK_BITS, examples.SHORT, examples.SHORT_AND_LONG, examples.EIGHT_UNMATCHING, examples.EIGHT_CONDITIONS,
+                examples.WORKED_CYCLES, examples.TWINS_CYCLES)
+    yield []
+    yield from ([tables.first_word(0, width, kind)] for kind in (tables.PLAIN, tables.WITH_CYCLES) for width in range(34))
+    yield from data_tables()
     yield from (tables.lay_out(tables.small_entries_plan(rng, 32, count)).words for count in (256, 257))
     longest = tables.lay_out(tables.longest_plan(rng)).words
     yield from (longest, longest + [0])
@@ -83,11 +88,16 @@ def some_plan(rng, width):
     return make(rng, width)
 
 
+def laid_out(rng, plan):
+    """As a table of kind 1, or of kind 6."""
+    return rng.choice(tables.lay_out_both(rng, plan))
+
+
 def usual(rng):
     """Tables of every width; many are ambiguous."""
     made = 0
     while made < USUAL:
-        words = tables.lay_out(some_plan(rng, 1 + made % 32)).words
+        words = laid_out(rng, some_plan(rng, 1 + made % 32)).words
         its_size = size(words, USUAL_NODES)
         if its_size is not None:
             made += 1
@@ -97,11 +107,11 @@ def usual(rng):
 def faulty(rng):
     """Each way to be at fault, and careless changes, after which some are good."""
     for index in range(FAULTY):
-        laid = tables.lay_out(some_plan(rng, 1 + index % 32))
+        laid = laid_out(rng, some_plan(rng, 1 + index % 32))
         damage = tables.USUAL_DAMAGES[index % len(tables.USUAL_DAMAGES)](rng, laid) or tables.some_damage(rng, laid)
         yield tables.damaged(laid.words, damage)
     for index in range(CHANGED):
-        yield tables.random_change(rng, tables.lay_out(some_plan(rng, 1 + index % 8)).words)
+        yield tables.random_change(rng, laid_out(rng, some_plan(rng, 1 + index % 8)).words)
         yield tables.loose_words(rng)
 
 
@@ -111,7 +121,7 @@ def at_the_limit(rng):
         yield tables.full_tree_plan(rng, rng.randint(depth, 32), depth)
     for width, twice in ((13, False), (20, False), (32, True)):
         yield tables.full_tree_plan(rng, width, 13, twice=twice)
-    for width, twice in ((14, True), (32, False), (32, True)):
+    for width, twice in ((14, True), (20, False), (32, False), (32, True)):
         yield tables.full_tree_plan(rng, width, 13, one_more=True, twice=twice)
     yield tables.full_tree_plan(rng, 32, 32)
 
@@ -132,7 +142,7 @@ def all_cases(rng):
     for source in (by_hand, faulty):
         yield from ((words, size(words)) for words in source(rng))
     for source in (at_the_limit, large):
-        yield from ((words, size(words)) for words in (tables.lay_out(plan).words for plan in source(rng)))
+        yield from ((words, size(words)) for words in (laid_out(rng, plan).words for plan in source(rng)))
 
 
 def main():

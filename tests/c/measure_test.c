@@ -9,19 +9,16 @@
  */
 
 #define _DEFAULT_SOURCE
-#include <signal.h>
 #include <stdio.h>
 #include <stdlib.h>
-#include <string.h>
-#include <sys/mman.h>
-#include <unistd.h>
 
 #include "kilnumber.h"
 
 #define TEST "measure_test"
 #include "words_file.h"
 
-#define MOST_WORDS 16400u
+#include "lending.h"
+
 #define MOST_NODES 16383u
 
 /* The answer for a table; and of the nodes within the limit what wrong stand-ins look at (make_sizes.py, made_of). */
@@ -63,31 +60,13 @@ uint64_t kilnumber_measure(const uint32_t *table, size_t table_words) {
 }
 #endif
 
-/* ------------------------------------------------------------------------- what is lent */
-
-static uint8_t *start, *guard; /* the room between two pages that can't be touched */
-
-static void make_room(void) {
-    size_t page = (size_t)sysconf(_SC_PAGESIZE), room = (4u * MOST_WORDS + page - 1) / page * page;
-    uint8_t *from = (uint8_t *)mmap(NULL, room + 2 * page, PROT_READ | PROT_WRITE, MAP_PRIVATE | MAP_ANONYMOUS, -1, 0);
-    if (from == MAP_FAILED || mprotect(from, page, PROT_NONE) != 0 || mprotect(from + page + room, page, PROT_NONE) != 0) stop("no memory");
-    start = from + page;
-    guard = start + room;
-}
-
-static void touched(int number) {
-    static const char text[] = "difference: memory outside the table is touched\n";
-    (void)number;
-    _exit(write(STDOUT_FILENO, text, sizeof text - 1) < 0 ? 2 : 1);
-}
-
 /* ------------------------------------------------------------------------- the comparison */
 
-static unsigned by_number[7], at_limit, over_and_clash;
+static struct room room;
+static unsigned by_number[7], of_kind_6, at_limit, over_and_clash;
 
 static void compare(const uint32_t *table, size_t table_words, uint64_t expected, int at_start) {
-    uint32_t *lent = (uint32_t *)(void *)(at_start ? start : guard - 4 * table_words);
-    if (table_words > 0) memcpy(lent, table, 4 * table_words);
+    const uint32_t *lent = lend(room, table, table_words, at_start);
     uint64_t seen = kilnumber_measure(lent, table_words);
     uint32_t number = (uint32_t)(expected >> 32), low = (uint32_t)expected;
     int parts_right = kilnumber_number(seen) == number;
@@ -99,10 +78,7 @@ static void compare(const uint32_t *table, size_t table_words, uint64_t expected
                (unsigned long long)seen);
         exit(1);
     }
-    if (table_words > 0 && memcmp(lent, table, 4 * table_words) != 0) {
-        printf("difference: %zu table words, and they have changed\n", table_words);
-        exit(1);
-    }
+    require_unchanged(lent, table, table_words);
 }
 
 static void try_table(const uint32_t *table, size_t table_words, struct size size) {
@@ -112,6 +88,7 @@ static void try_table(const uint32_t *table, size_t table_words, struct size siz
     compare(table, table_words, size.answer, 0);
     compare(table, table_words, size.answer, 1);
     by_number[size.answer >> 32]++;
+    of_kind_6 += size.answer >> 32 == 0 && table[0] >> 28 == 6;
     at_limit += size.answer >> 32 == 0 && size.nodes == MOST_NODES;
     over_and_clash += size.answer >> 32 == 5 && size.is_clash;
 }
@@ -120,8 +97,7 @@ int main(int arguments, char **argument) {
     if (arguments != 2) stop("usage: measure_test file");
     size_t count, at = 1;
     uint32_t *words = read_words(argument[1], &count);
-    make_room();
-    if (signal(SIGSEGV, touched) == SIG_ERR) stop("no handler");
+    room = make_room();
     for (uint32_t turn = 0; turn < words[0]; turn++) {
         if (at + 9 > count) stop("the file is not whole");
         const uint32_t *from = words + at;
@@ -139,6 +115,7 @@ int main(int arguments, char **argument) {
         if (by_number[number] < (number == 5 ? 5 : 50)) stop("too few of a number");
     }
     if (at_limit < 2 || over_and_clash < 2) stop("too few at the limit");
+    if (of_kind_6 < 100) stop("too few of kind 6");
     free(words);
     return 0;
 }

@@ -1,12 +1,12 @@
 /*
- * Hostile inputs for kilnumber_walk, kilnumber_mask, kilnumber_measure, kilnumber_check and kilnumber_list: what they answer against
- * reference.h, and whether they touch other memory.
+ * Hostile inputs for kilnumber_walk, kilnumber_mask, kilnumber_measure, kilnumber_check, kilnumber_list and kilnumber_cycles: what they
+ * answer against reference.h, and whether they touch other memory.
  *
- * Usage: fuzz trees lists sizes walks listings tables (files of tests/c/make_trees.py, make_lists.py and tests/c/make_sizes.py, then
- * how many walks, listings and sized tables).
+ * Usage: fuzz trees lists sizes walks listings tables asked (files of tests/c/make_trees.py, make_lists.py and tests/c/make_sizes.py,
+ * then how many walks, listings, sized tables and tables asked for cycles).
  * Inputs are altered at random; an input that came to a new place of the reference (check, index or tests passed) is kept and
  * altered further. Everything lent lies between pages that can't be touched, and must be unchanged afterwards.
- * With -DSTAND_IN there is no library but the reference itself, wrong in the way that a seventh argument numbers.
+ * With -DSTAND_IN there is no library but the reference itself, wrong in the way that an eighth argument numbers.
  */
 
 #define _DEFAULT_SOURCE
@@ -23,6 +23,7 @@
 #define MOST_TREE_BYTES 16400u   /* of an input that is altered */
 #define MOST_KEPT 20000u
 #define WORDS_A_TREE 8u
+#define ENTRIES_A_TABLE 6u
 #define MOST_LIST_WORDS 4096u
 #define MOST_SIZE_WORDS (MOST_TABLE_WORDS + 4)
 #define MOST_ALTERED_WORDS 512u  /* of a table that is sized: the reference takes long where there are many entries */
@@ -78,14 +79,17 @@ static void require_same(const void *lent, const void *from, size_t bytes) {
 
 static unsigned wrong; /* a check that is left out, or one of these */
 enum {
-    LEAF_COUNTED = SIZE_END + 1, READS_PAST, WRITES_TREE, MASK_FROM_ONE, MASK_WHEN_REFUSED, MASK_READS_PAST,
+    LEAF_COUNTED = CYCLES_END + 1, READS_PAST, WRITES_TREE, MASK_FROM_ONE, MASK_WHEN_REFUSED, MASK_READS_PAST,
     ITEM_AFTER, PLACE_AFTER, CHECK_IS_YES, CHECK_PLACE,
     SIZE_SWAPPED, SIZE_IN_WORDS, SIZE_LEAF_COUNTED, SIZE_NUMBER_ABOVE, SIZE_NO_WORD, SIZE_NO_PLACE, SIZE_LIMIT_LOWER, SIZE_READS_PAST,
-    SIZE_READS_BEFORE, SIZE_WRITES_TABLE, LAST_WRONG
+    SIZE_READS_BEFORE, SIZE_WRITES_TABLE,
+    CYCLES_OF_FIRST, CYCLES_OF_NEXT, CYCLES_LOW_BYTE, CYCLES_ENTRY_BYTE, CYCLES_AT_COUNT, CYCLES_NUMBER_ABOVE, CYCLES_NO_PLACE,
+    CYCLES_PLACE_OF_11, CYCLES_READS_PAST, CYCLES_READS_BEFORE, CYCLES_WRITES_TABLE, LAST_WRONG
 };
 
-/* Then only sizes can differ, and only these are tried. */
-static int is_wrong_size(void) { return (wrong > LIST_END && wrong < SIZE_END) || wrong >= SIZE_SWAPPED; }
+/* Then only sizes or only cycles can differ, and only these are tried. */
+static int is_wrong_size(void) { return (wrong > LIST_END && wrong < SIZE_END) || (wrong >= SIZE_SWAPPED && wrong < CYCLES_OF_FIRST); }
+static int is_wrong_cycles(void) { return (wrong > SIZE_END && wrong < CYCLES_END) || wrong >= CYCLES_OF_FIRST; }
 
 #ifdef STAND_IN
 uint64_t kilnumber_walk(const uint8_t *tree, size_t length, uint32_t word) {
@@ -136,6 +140,24 @@ uint64_t kilnumber_list(const uint32_t *table, size_t table_words, const uint32_
     if (wrong == PLACE_AFTER && result >> 32 == 17) result++;
     return result;
 }
+
+uint64_t kilnumber_cycles(const uint32_t *table, size_t table_words, uint32_t entry) {
+    if (wrong == CYCLES_READS_PAST && ((const volatile uint32_t *)table)[table_words] == 0) return 0;
+    if (wrong == CYCLES_READS_BEFORE && ((const volatile uint32_t *)table)[-1] == 0) return 0;
+    if (wrong == CYCLES_WRITES_TABLE && table_words > 0) ((volatile uint32_t *)(uintptr_t)table)[table_words - 1] ^= 1;
+    uint32_t entries = table_words == 0 ? 0 : table[0] >> 16 & 0xfff;
+    if (wrong == CYCLES_OF_FIRST && entry < entries) entry = 0;
+    if (wrong == CYCLES_OF_NEXT && entry + 1 < entries) entry++;
+    if (wrong == CYCLES_ENTRY_BYTE) entry &= 0xff;
+    if (wrong == CYCLES_AT_COUNT && entry == entries && entries > 0) entry--;
+    struct table read = table_of(table, table_words, (enum check)wrong);
+    uint64_t result = reference_cycles(&read, entry), number = result >> 32;
+    if (wrong == CYCLES_LOW_BYTE && number == 0) result &= 0xff;
+    if (wrong == CYCLES_NUMBER_ABOVE) result = number << 40 | (result & 0xffffffff);
+    if (wrong == CYCLES_NO_PLACE) result = number == 0 ? result : number << 32;
+    if (wrong == CYCLES_PLACE_OF_11 && number == 11) result |= entry;
+    return result;
+}
 #endif
 
 /* ------------------------------------------------------------------------- inputs that are kept */
@@ -147,7 +169,8 @@ struct input {
 
 static struct input kept[MOST_KEPT];
 static size_t kept_count;
-static uint64_t walks, listings, sizes, by_number[10], by_list_number[18], by_check_number[18], by_size_number[7], by_check[SIZE_END + 1];
+static uint64_t walks, listings, sizes, asked, by_number[10], by_list_number[18], by_check_number[18], by_size_number[7],
+    by_cycles_number[12], by_check[CYCLES_END + 1], listed_of_6, sized_of_6; /* the last two: without refusal, of kind 6 */
 
 static void keep(const uint8_t *bytes, size_t length) {
     if (kept_count == MOST_KEPT) return;
@@ -159,7 +182,7 @@ static void keep(const uint8_t *bytes, size_t length) {
 
 /* Whether the reference came to this for the first time. */
 static int is_new(uint32_t check, uint32_t one, uint32_t other) {
-    static uint8_t seen[SIZE_END + 1][128][64];
+    static uint8_t seen[CYCLES_END + 1][128][64];
     uint8_t *place = &seen[check][one < 127 ? one : 127][other < 63 ? other : 63];
     int new = *place == 0;
     *place = 1;
@@ -289,7 +312,7 @@ static void keep_listing(const struct listing *from) {
 }
 
 static uint32_t some_table_word(void) {
-    static const uint32_t heads[] = {0x10010020, 0x10020020, 0x20001000, 0x20002010, 0x20002090, 0x20001019,
+    static const uint32_t heads[] = {0x10010020, 0x10020020, 0x60010020, 0x60020020, 0x20001000, 0x20002010, 0x20002090, 0x20001019,
                                      0x30000010, 0x40000000, 0x40000001, 0x40000009, 0x50000000};
     return below(3) == 0 ? any() : heads[below(sizeof heads / sizeof heads[0])] ^ (below(3) == 0 ? 1u << below(32) : 0);
 }
@@ -302,7 +325,38 @@ static size_t alter_words(uint32_t *words, size_t count, int tree) {
     case 2: return below(2) == 0 ? index : count - (count > 0);
     case 3: if (count < MOST_LIST_WORDS) words[count++] = any(); return count;
     case 4: if (count > 1) words[index] = words[below((uint32_t)count)]; return count;
-    default: if (count > 0) words[0] ^= 1u << below(32); return count;
+    default: /* now and then only the kind: 6 for 1, 1 for 6 */
+        if (count > 0) words[0] ^= !tree && below(4) == 0 ? 7u << 28 : 1u << below(32);
+        return count;
+    }
+}
+
+/* Makes one of kind 6, without fault too, of a table of kind 1 without fault. The new count. */
+static size_t add_cycles(uint32_t *words, struct table table, size_t most) {
+    size_t count = table.count;
+    if (count + table.entries > most) return count;
+    words[0] ^= 7u << 28;
+    for (uint32_t entry = table.entries; entry-- > 0; count++) { /* from the last one, so that the earlier ones stay where they are */
+        size_t at = table.places[entry] + 3;
+        memmove(words + at + 1, words + at, 4 * (count - at));
+        words[at] = below(4) == 0 ? below(2) * MOST_CYCLES : below(MOST_CYCLES + 1);
+    }
+    return count;
+}
+
+/* Alters the cycles of a table without fault: gives it some; or it alters a cycles word, leaves it out, or ends the table before it. The
+ * new count. */
+static size_t alter_cycles(uint32_t *words, size_t count, size_t most) {
+    static const uint32_t edges[] = {0, 1, 255, 256, MOST_CYCLES, MOST_CYCLES + 1, 0x80000000, 0xffff0000, 0xffffffff};
+    struct table table = table_of(words, count, NONE);
+    if (!read_table(&table) || table.entries == 0) return count;
+    if (!table.has_cycles) return add_cycles(words, table, most);
+    size_t at = table.places[below(table.entries)] + 3;
+    switch (below(4)) {
+    case 0: memmove(words + at, words + at + 1, 4 * (count - at - 1)); return count - 1;
+    case 1: return at;
+    case 2: words[at] ^= 1u << below(32); return count;
+    default: words[at] = edges[below(sizeof edges / sizeof edges[0])]; return count;
     }
 }
 
@@ -338,9 +392,10 @@ static size_t alter_shape(uint32_t *tree, size_t count) {
 
 static void alter_listing(struct listing *listing) {
     struct lent *lent = &listing->lent;
-    switch (below(9)) {
+    switch (below(10)) {
     case 5:
     case 6: lent->tree_words = alter_shape(listing->tree, lent->tree_words); break;
+    case 7: lent->table_words = alter_cycles(listing->table, lent->table_words, MOST_LIST_WORDS); break;
     case 0: lent->table_words = alter_words(listing->table, lent->table_words, 0); break;
     case 1: lent->tree_words = alter_words(listing->tree, lent->tree_words, 1); break;
     case 2: { /* the tree of another table */
@@ -397,6 +452,7 @@ static void compare_listing(struct listing *listing, int too_long) {
     if (!too_long) require_same(lent.image, listing->image, lent.image_bytes);
     listings++;
     by_list_number[expected >> 32]++;
+    listed_of_6 += expected >> 32 == 0 && lent.table[0] >> 28 == 6;
     by_check[stopped_by]++;
     /* What is altered further of a table at fault is mostly at the same fault. */
     int good_table = expected >> 32 == 0 || expected >> 32 >= 14;
@@ -435,22 +491,22 @@ static void keep_table(const uint32_t *words, size_t count) {
 }
 
 /* The mask of a pattern in an entry without fault: the opcode's, or one in a condition. Its value is the next word. */
-static uint32_t *some_pattern(uint32_t *entry) {
-    uint32_t *condition = entry + 3 + (entry[0] >> 4 & 15), conditions = entry[0] & 15;
+static uint32_t *some_pattern(const struct table *table, uint32_t *entry) {
+    uint32_t *condition = entry + before_conditions(table, entry), conditions = entry[0] & 15;
     if (conditions == 0 || below(3) == 0) return entry + 1;
     for (uint32_t turn = below(conditions); turn > 0; turn--) condition += 3 + 3 * (condition[0] & 15);
     return condition + 1 + 3 * below(1 + (condition[0] & 15));
 }
 
 /* Alters a table without fault so that mostly it has none afterwards: another value, another mask in a condition, an entry less, twice,
- * or those of another table. The new count. */
+ * or those of another table of the kind; or its cycles. The new count. */
 static size_t alter_table(uint32_t *words, size_t count) {
-    struct table table = {words, count, 0, 0, 0, 0, 0, {0}, NONE, NONE};
+    struct table table = table_of(words, count, NONE);
     if (!read_table(&table) || table.entries == 0) return alter_words(words, count, 0);
     uint32_t chosen = below(table.entries);
-    uint32_t *entry = words + table.places[chosen], *pattern = some_pattern(entry);
+    uint32_t *entry = words + table.places[chosen], *pattern = some_pattern(&table, entry);
     size_t from = table.places[chosen], end = chosen + 1 < table.entries ? table.places[chosen + 1] : count;
-    switch (below(6)) {
+    switch (below(7)) {
     case 0:
     case 1: pattern[1] ^= pattern[0] & any() & any(); return count;
     case 2: /* a condition's mask may be any of the own bits */
@@ -467,9 +523,10 @@ static size_t alter_table(uint32_t *words, size_t count) {
         memcpy(words + count, entry, 4 * (end - from));
         words[0] += 0x10000;
         return count + (end - from);
-    default: { /* all the entries of another table of the width */
+    case 5: return alter_cycles(words, count, MOST_ALTERED_WORDS);
+    default: { /* all the entries of another table of the kind and width */
         struct words other = tables[below((uint32_t)table_count)];
-        if (other.count < 2 || (other.words[0] & 0xff) != table.width || count + other.count - 1 > MOST_ALTERED_WORDS) return count;
+        if (other.count < 2 || ((other.words[0] ^ words[0]) & 0xf00000ff) != 0 || count + other.count - 1 > MOST_ALTERED_WORDS) return count;
         memcpy(words + count, other.words + 1, 4 * (other.count - 1));
         words[0] += other.words[0] & 0xfff0000;
         return count + other.count - 1;
@@ -481,14 +538,35 @@ static size_t alter_table(uint32_t *words, size_t count) {
 static size_t random_table(uint32_t *words) {
     size_t count = below(24);
     for (size_t at = 0; at < count; at++) words[at] = some_table_word();
-    if (count > 0 && below(8) != 0) words[0] = 1u << 28 | below(4) << 16 | (1 + below(32));
+    if (count > 0 && below(8) != 0) words[0] = (below(2) == 0 ? 1u : 6u) << 28 | below(4) << 16 | (1 + below(32));
     return count;
 }
 
-static struct area size_area;
+/* A table that was kept, altered; now and then random words, or one about as long as the longest. Its length. */
+static size_t some_table(uint32_t *words) {
+    struct words from = tables[below((uint32_t)table_count)];
+    size_t length = from.count;
+    if (length > 0) memcpy(words, from.words, 4 * length);
+    for (uint32_t turn = below(4); turn > 0; turn--)
+        length = below(3) == 0 ? alter_words(words, length, 0) : alter_table(words, length);
+    if (below(16) == 0) length = random_table(words);
+    if (below(LONG_OFTEN) == 0) {
+        size_t more = MOST_TABLE_WORDS - 2 + below(5);
+        for (; length < more; length++) words[length] = some_table_word();
+    }
+    return length;
+}
+
+static uint32_t digits_of(uint32_t number) {
+    uint32_t digits = 0;
+    for (; number > 0; number /= 2) digits++;
+    return digits;
+}
+
+static struct area words_area; /* of a table that is sized or asked for cycles */
 
 static void compare_size(const uint32_t *words, size_t count) {
-    const uint32_t *lent = (const uint32_t *)(const void *)lend(size_area, words, 4 * count, below(4) == 0);
+    const uint32_t *lent = (const uint32_t *)(const void *)lend(words_area, words, 4 * count, below(4) == 0);
     struct sizing sizing = reference_size(words, count, NONE);
     uint64_t expected = sizing.result, seen = kilnumber_measure(lent, count);
     if (seen != expected) {
@@ -499,33 +577,58 @@ static void compare_size(const uint32_t *words, size_t count) {
     require_same(lent, words, 4 * count);
     sizes++;
     by_size_number[expected >> 32]++;
-    for (int check = LIST_END + 1; check < SIZE_END; check++) by_check[check] += sizing.came >> (check - LIST_END) & 1;
+    sized_of_6 += expected >> 32 == 0 && words[0] >> 28 == 6;
+    for (int check = LIST_END + 1; check < SIZE_END; check++) by_check[check] += sizing.table.came >> check & 1;
     /* As with listings, a table at fault is not altered further. Nor is one with a large tree, which takes long. */
     if ((expected >> 32 != 0 && expected >> 32 != 6) || sizing.nodes > MOST_KEPT_NODES) return;
-    uint32_t digits = 0;
-    for (uint32_t nodes = sizing.nodes; nodes > 0; nodes /= 2) digits++;
     enum check end = expected >> 32 == 0 ? SIZE_END : CONFLICT;
-    if (is_new(end, 4 * sizing.tests + sizing.table.entries % 4, digits)) keep_table(words, count);
+    if (is_new(end, 4 * sizing.tests + sizing.table.entries % 4, digits_of(sizing.nodes))) keep_table(words, count);
 }
 
 static void fuzz_sizes(uint64_t count) {
     static uint32_t words[MOST_SIZE_WORDS];
     size_t given = table_count;
-    size_area = make_area(4 * MOST_SIZE_WORDS);
     for (size_t at = 0; at < given; at++) compare_size(tables[at].words, tables[at].count);
-    while (sizes < count) {
-        struct words from = tables[below((uint32_t)table_count)];
-        size_t length = from.count;
-        if (length > 0) memcpy(words, from.words, 4 * length);
-        for (uint32_t turn = below(4); turn > 0; turn--)
-            length = below(3) == 0 ? alter_words(words, length, 0) : alter_table(words, length);
-        if (below(16) == 0) length = random_table(words);
-        if (below(LONG_OFTEN) == 0) {
-            size_t more = MOST_TABLE_WORDS - 2 + below(5);
-            for (; length < more; length++) words[length] = some_table_word();
-        }
-        compare_size(words, length);
+    while (sizes < count) compare_size(words, some_table(words));
+}
+
+/* ------------------------------------------------------------------------- cycles */
+
+/* Mostly one that is there, or the first that is not; else one that a part of a number would take for another. */
+static uint32_t some_entry(uint32_t entries) {
+    uint32_t entry = below(entries);
+    switch (below(6)) {
+    case 0: return entries + below(2);
+    case 1: return entry | 256u << below(24);
+    case 2: return any();
+    default: return entry;
     }
+}
+
+static void compare_cycles(const uint32_t *words, size_t count) {
+    const uint32_t *lent = (const uint32_t *)(const void *)lend(words_area, words, 4 * count, below(4) == 0);
+    int new = 0;
+    for (uint32_t turn = 0; turn < ENTRIES_A_TABLE; turn++) {
+        struct table table = table_of(words, count, NONE);
+        uint32_t entry = some_entry(count == 0 ? 0 : words[0] >> 16 & 0xfff);
+        uint64_t expected = reference_cycles(&table, entry), seen = kilnumber_cycles(lent, count, entry);
+        if (seen != expected) {
+            printf("fuzz: cycles (%zu table words, entry %u): expected %016llx, seen %016llx\n", count, (unsigned)entry,
+                   (unsigned long long)expected, (unsigned long long)seen);
+            exit(1);
+        }
+        by_cycles_number[expected >> 32]++;
+        for (int check = SIZE_END + 1; check < CYCLES_END; check++) by_check[check] += table.came >> check & 1;
+        if (expected >> 32 == 0) new |= is_new(CYCLES_END, table.entries, 2 * digits_of((uint32_t)expected) + table.has_cycles);
+    }
+    require_same(lent, words, 4 * count);
+    asked++;
+    if (new && count <= MOST_ALTERED_WORDS) keep_table(words, count);
+}
+
+static void fuzz_cycles(uint64_t count) {
+    static uint32_t words[MOST_SIZE_WORDS];
+    while (asked < count) compare_cycles(words, some_table(words));
 }
 
 /* ------------------------------------------------------------------------- files */
@@ -604,10 +707,10 @@ static double seconds(void) {
 static void require_each(uint64_t least) {
     static const char *const names[] = {"finished",
 #define NAME(check) #check,
-        WALK_CHECKS(NAME) "", LIST_CHECKS(NAME) "ends early", SIZE_CHECKS(NAME) ""};
+        WALK_CHECKS(NAME) "", LIST_CHECKS(NAME) "ends early", SIZE_CHECKS(NAME) "", CYCLES_CHECKS(NAME) ""};
 #undef NAME
-    for (int check = NONE; check < SIZE_END; check++)
-        if (check != WALK_END && by_check[check] < least) {
+    for (int check = NONE; check < CYCLES_END; check++)
+        if (check != WALK_END && check != SIZE_END && by_check[check] < least) {
             printf("fuzz: only %llu inputs came to %s\n", (unsigned long long)by_check[check], names[check]);
             exit(1);
         }
@@ -615,37 +718,50 @@ static void require_each(uint64_t least) {
         if (by_check_number[number] < least) stop("too few checks of a number");
     for (int number = 0; number <= 6; number++)
         if (by_size_number[number] < least) stop("too few sizes of a number");
+    for (int number = 0; number <= 11; number = number == 4 ? 11 : number + 1)
+        if (by_cycles_number[number] < least) stop("too few cycles of a number");
+    if (listed_of_6 < 10 * least || sized_of_6 < 10 * least) stop("too few tables of kind 6");
 }
 
 int main(int arguments, char **argument) {
-    if (arguments < 7) stop("usage: fuzz trees lists sizes walks listings tables");
-    wrong = arguments > 7 ? (unsigned)atoi(argument[7]) : 0;
-    if (wrong >= LAST_WRONG) return 3;                                              /* the end of the row */
-    if (wrong == WALK_END || wrong == LIST_END || wrong == SIZE_END) return 4;      /* no way to be wrong */
+    if (arguments < 8) stop("usage: fuzz trees lists sizes walks listings tables asked");
+    wrong = arguments > 8 ? (unsigned)atoi(argument[8]) : 0;
+    if (wrong >= LAST_WRONG) return 3;                                                                      /* the end of the row */
+    if (wrong == WALK_END || wrong == LIST_END || wrong == SIZE_END || wrong == CYCLES_END) return 4;       /* no way to be wrong */
     read_trees(argument[1]);
     read_lists(argument[2]);
     read_sizes(argument[3]);
+    words_area = make_area(4 * MOST_SIZE_WORDS);
     size_t given = kept_count, given_lists = list_count, given_tables = table_count;
+    int others = !is_wrong_size() && !is_wrong_cycles();
     double start = seconds();
-    if (!is_wrong_size()) fuzz_walks(strtoull(argument[4], NULL, 10));
+    if (others) fuzz_walks(strtoull(argument[4], NULL, 10));
     double walked = seconds();
-    if (!is_wrong_size()) fuzz_listings(strtoull(argument[5], NULL, 10));
+    if (others) fuzz_listings(strtoull(argument[5], NULL, 10));
     double listed = seconds();
     if (wrong == 0 || is_wrong_size()) fuzz_sizes(strtoull(argument[6], NULL, 10));
     double sized = seconds();
-    if (arguments < 8) require_each(10);
-    printf("fuzz: walks finished: %llu, number 7: %llu, 8: %llu, 9: %llu; listings whole: %llu, number 1 to 4: %llu, 14: %llu, 15: %llu, "
-           "16: %llu, 17: %llu\n", (unsigned long long)by_number[0], (unsigned long long)by_number[7], (unsigned long long)by_number[8],
-           (unsigned long long)by_number[9], (unsigned long long)by_list_number[0],
+    if (wrong == 0 || is_wrong_cycles()) fuzz_cycles(strtoull(argument[7], NULL, 10));
+    double ended = seconds();
+    if (arguments < 9) require_each(10);
+    printf("fuzz: walks finished: %llu, number 7: %llu, 8: %llu, 9: %llu; listings whole: %llu (of kind 6: %llu), number 1 to 4: %llu, "
+           "14: %llu, 15: %llu, 16: %llu, 17: %llu\n", (unsigned long long)by_number[0], (unsigned long long)by_number[7],
+           (unsigned long long)by_number[8], (unsigned long long)by_number[9], (unsigned long long)by_list_number[0],
+           (unsigned long long)listed_of_6,
            (unsigned long long)(by_list_number[1] + by_list_number[2] + by_list_number[3] + by_list_number[4]),
            (unsigned long long)by_list_number[14], (unsigned long long)by_list_number[15], (unsigned long long)by_list_number[16],
            (unsigned long long)by_list_number[17]);
-    printf("fuzz: sizes: %llu, number 1 to 4: %llu, 5: %llu, 6: %llu\n", (unsigned long long)by_size_number[0],
+    printf("fuzz: sizes: %llu (of kind 6: %llu), number 1 to 4: %llu, 5: %llu, 6: %llu; cycles: %llu, number 1 to 4: %llu, 11: %llu\n",
+           (unsigned long long)by_size_number[0], (unsigned long long)sized_of_6,
            (unsigned long long)(by_size_number[1] + by_size_number[2] + by_size_number[3] + by_size_number[4]),
-           (unsigned long long)by_size_number[5], (unsigned long long)by_size_number[6]);
-    printf("fuzz good: %llu walks and masks in %.1f s, %llu listings and as many checks in %.1f s, %llu tables sized in %.1f s; "
-           "differences 0, faults 0; kept %zu trees over %zu given, %zu listings over %zu, %zu tables over %zu\n",
+           (unsigned long long)by_size_number[5], (unsigned long long)by_size_number[6], (unsigned long long)by_cycles_number[0],
+           (unsigned long long)(by_cycles_number[1] + by_cycles_number[2] + by_cycles_number[3] + by_cycles_number[4]),
+           (unsigned long long)by_cycles_number[11]);
+    printf("fuzz good: %llu walks and masks in %.1f s, %llu listings and as many checks in %.1f s, %llu tables sized in %.1f s, "
+           "%llu asked for cycles in %.1f s; differences 0, faults 0; kept %zu trees over %zu given, %zu listings over %zu, "
+           "%zu tables over %zu\n",
            (unsigned long long)walks, walked - start, (unsigned long long)listings, listed - walked, (unsigned long long)sizes, sized - listed,
-           kept_count - given, given, list_count - given_lists, given_lists, table_count - given_tables, given_tables);
+           (unsigned long long)asked, ended - sized, kept_count - given, given, list_count - given_lists, given_lists,
+           table_count - given_tables, given_tables);
     return 0;
 }

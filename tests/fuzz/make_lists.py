@@ -38,7 +38,7 @@ def some_plan(rng):
 def some_list(rng):
     """A table, its tree and an image; None where the tree is large or ambiguous."""
     plan = some_plan(rng)
-    words = tables.lay_out(plan).words
+    words = rng.choice(tables.lay_out_both(rng, plan)).words
     nodes = nodes_of(read(words), MOST_NODES)
     if nodes is None or conflict_word(nodes) is not None:
         return None

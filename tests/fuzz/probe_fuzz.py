@@ -15,6 +15,7 @@ import probe
 from probe_requests import QUESTIONS
 from second import examples
 from second.lines import line_of
+from second.twins import heads_in, twin_of
 
 SEED = 15
 MOST_PARTS = 8
@@ -120,17 +121,29 @@ def some_request(rng):
     return probe.request_of((name, *parts))
 
 
-def some_question(rng):
-    if rng.random() < 0.7:
-        return rng.choice(QUESTIONS)
+def some_table(rng):
+    """Of kind 1, or of kind 6, now and then with too many cycles."""
     table = rng.choice([examples.WORKED, examples.WITH_THIRD, examples.EVERY_KIND, examples.SHORT_AND_LONG])
+    if rng.random() < 0.5:
+        return table
+    twin = twin_of(rng, table)
+    if rng.random() < 0.3:
+        twin[rng.choice(heads_in(twin)) + 3] = rng.choice([0x10000, 0x80000000, 0xFFFFFFFF])
+    return twin
+
+
+def some_question(rng):
+    if rng.random() < 0.6:
+        return rng.choice(QUESTIONS)
+    table = some_table(rng)
+    asked = "cycles", table, rng.choice([0, 0, 0, 1, 7, rng.getrandbits(32)])
     return rng.choice([("lookup", table, rng.getrandbits(8)), ("generate", table, [7] * rng.randrange(40)), ("read", table),
-                       ("measure", table)])
+                       ("measure", table), asked, asked])
 
 
 def some_word(rng):
     """Numbers and counts near a limit, or that a part of a word would take for another."""
-    return rng.choice([0, 1, 5, 12, 13, 0x101, 0x10002, 0x3FFFFFFF, 0x40000001, 0x40000005, 0x7FFFFFFF, 0x80000000, 0xFFFFFFFC,
+    return rng.choice([0, 1, 5, 13, 14, 0x101, 0x10002, 0x3FFFFFFF, 0x40000001, 0x40000005, 0x7FFFFFFF, 0x80000000, 0xFFFFFFFC,
                        0xFFFFFFFF, rng.getrandbits(32), rng.randrange(20)])
 
 
@@ -197,14 +210,15 @@ def main():
             sys.exit(1)
         tally["streams"] += 1
         tally["lines"] += len(seen)
+        tally["cycles"] += sum(line.startswith("13 0 ") for line in expected)
         tally["stopped" if expected and expected[-1].startswith("stopped") else "ended"] += 1
         for mistake in set(MISTAKES) - noticed:
             if framed(data, mistake) != framed(data):
                 noticed.add(mistake)
     if len(noticed) < len(MISTAKES):
         sys.exit(f"no stream shows: {sorted(set(MISTAKES) - noticed)}")
-    probe.require_enough(tally, {"stopped": count // 4, "ended": count // 10, "lines": count})
-    print(f"probe_fuzz good: {tally['streams']} streams, {tally['lines']} lines; stopped: {tally['stopped']}, whole: {tally['ended']}; "
+    probe.require_enough(tally, {"stopped": count // 4, "ended": count // 10, "lines": count, "cycles": count // 40})
+    print(f"probe_fuzz good: {tally['streams']} streams, {tally['lines']} lines, {tally['cycles']} of cycles; stopped: {tally['stopped']}, whole: {tally['ended']}; "
           f"faults 0; {len(noticed)} of {len(MISTAKES)} mistakes noticed")
 
 

@@ -1,9 +1,9 @@
 /*
- * The walk, the check and the listing of document 01, and the mask and the size of document 02, written from these papers alone, for
- * fuzz.c. Sentences in quotes are the papers'.
+ * The walk, the check and the listing of document 01, and the mask, the size and the cycles of document 02, written from these papers
+ * alone, for fuzz.c. Sentences in quotes are the papers'.
  *
  * Each check has a name, and a check is left out where its name is `without`: so the same text is the reference (NONE) and a row of
- * wrong ones, and the checks that a walk came by say how far an input got. For a size the names are parts of the rule.
+ * wrong ones, and the checks that a walk came by say how far an input got. For a size and for cycles the names are parts of the rule.
  */
 
 #ifndef REFERENCE_H
@@ -21,20 +21,25 @@
     X(BIT_TWICE) X(ONE_SIDE_BEGINS) X(ALL_USED) X(NAMED_STEP) X(NOTHING_STEP) X(NO_ROOM) X(LAST_HALF)
 #define SIZE_CHECKS(X)                                                                                                       \
     X(TREE_LIMIT) X(FIT_FIRST) X(CONFLICT) X(FIRST_CONFLICT) X(DEEPEST) X(HIGHEST_ON_TIE) X(MOST_MASKS) X(HIGHEST_UNFIXED)      \
-    X(UNMATCHING_TOO)
+    X(UNMATCHING_TOO) X(CYCLES_ASIDE)
+#define CYCLES_CHECKS(X)                                                                                                     \
+    X(CYCLES_HIGH) X(AFTER_VALUE) X(BEFORE_FIELDS) X(KIND_ONE_ZERO) X(NO_SUCH_ENTRY) X(FAULTS_FIRST)
 
 enum check {
     NONE,
 #define NAME(check) check,
     WALK_CHECKS(NAME) WALK_END,
     LIST_CHECKS(NAME) LIST_END,
-    SIZE_CHECKS(NAME) SIZE_END
+    SIZE_CHECKS(NAME) SIZE_END,
+    CYCLES_CHECKS(NAME) CYCLES_END
 #undef NAME
 };
+_Static_assert(CYCLES_END < 64, "the checks have a bit each in `came`");
 
 #define MOST_STEPS 200000u /* only a wrong walk, which may go round in circles, comes to it */
 #define MOST_TABLE_WORDS 16384u
 #define MOST_TREE_WORDS 16384u
+#define MOST_CYCLES 65535u
 #define MOST_IMAGE_BYTES 2097152u
 
 static uint32_t word_at(const uint8_t *bytes, size_t index) {
@@ -119,13 +124,25 @@ static inline uint64_t packed(struct walked walked) {
 struct table {
     const uint32_t *words;
     size_t count, next; /* the word that is read next */
-    uint32_t width, entries, number;
+    uint32_t width, entries, has_cycles, number;
     size_t place, places[256];
     enum check stopped_by, without;
+    uint64_t came; /* a bit for each part of a rule that the input came by */
 };
 
+static struct table table_of(const uint32_t *words, size_t count, enum check without) {
+    struct table table = {.words = words, .count = count, .without = without};
+    return table;
+}
+
+/* Whether this part of a rule is kept. */
+static int keeps(struct table *table, enum check part) {
+    table->came |= (uint64_t)1 << part;
+    return table->without != part;
+}
+
 static int table_fault(struct table *table, enum check by, uint32_t number, size_t place) {
-    if (table->without == by) return 0;
+    if (!keeps(table, by)) return 0;
     table->stopped_by = by;
     table->number = number;
     table->place = place;
@@ -194,11 +211,19 @@ static int read_entry(struct table *table) {
         length = table->width;
     }
     uint32_t own = span(table->width - length, length);
+    /* "after each entry's value word, a word with its cycles, 0 to 65,535, upper bits zero, else number 2" */
+    size_t cycles = place + 3;
+    int high = table->has_cycles && cycles < table->count && table->words[cycles] > MOST_CYCLES;
+    if (high && !keeps(table, AFTER_VALUE) && table_fault(table, CYCLES_HIGH, 2, cycles)) return 0;
     if (!read_pattern(table, own)) return 0;
+    if (table->has_cycles && ends_early(table)) return 0;
+    table->next += table->has_cycles;
+    if (high && keeps(table, BEFORE_FIELDS) && table_fault(table, CYCLES_HIGH, 2, cycles)) return 0;
     uint32_t covered = table->words[place + 1];
     for (uint32_t turn = 0; turn < fields; turn++)
         if (!read_field(table, own, &covered)) return 0;
     if (covered != own && table_fault(table, COVER, 4, place)) return 0;
+    if (high && !keeps(table, BEFORE_FIELDS) && table_fault(table, CYCLES_HIGH, 2, cycles)) return 0;
     for (uint32_t turn = 0; turn < conditions; turn++)
         if (!read_condition(table, own)) return 0;
     return 1;
@@ -208,13 +233,14 @@ static int read_table(struct table *table) {
     uint32_t first = table->count == 0 ? 0 : table->words[0];
     table->entries = first >> 16 & 0xfff;
     table->width = first & 0xff;
+    table->has_cycles = first >> 28 == 6; /* "A table that begins with kind 6 in place of kind 1" */
     table->next = 1;
     /* No wrong reader leaves these three out: they keep the arrays whole. */
     if (table->count == 0 || table->count > MOST_TABLE_WORDS || table->entries > 256 || table->width < 1 || table->width > 32) {
         table->number = 1;
         return 0;
     }
-    if ((first >> 28 != 1 || (first >> 8 & 0xff) != 0) && table_fault(table, TABLE_FIRST, 1, 0)) return 0;
+    if (((first >> 28 != 1 && !table->has_cycles) || (first >> 8 & 0xff) != 0) && table_fault(table, TABLE_FIRST, 1, 0)) return 0;
     for (uint32_t entry = 0; entry < table->entries; entry++) {
         table->places[entry] = table->next;
         if (!read_entry(table)) return 0;
@@ -223,6 +249,9 @@ static int read_table(struct table *table) {
 }
 
 static const uint32_t *entry_at(const struct table *table, uint32_t entry) { return table->words + table->places[entry]; }
+
+/* How many words of an entry come before its conditions: head, opcode, cycles, fields. */
+static size_t before_conditions(const struct table *table, const uint32_t *entry) { return 3 + table->has_cycles + (entry[0] >> 4 & 15); }
 
 /* ------------------------------------------------------------------------- cells; a word is a cell with all bits fixed */
 
@@ -252,10 +281,10 @@ static enum status condition_status(struct cell cell, const uint32_t *condition)
 
 /* "An entry is dead if its opcode pattern clashes or a condition holds; sure if the pattern is implied and every condition fails;
  * else open." */
-static enum status entry_status(struct cell cell, const uint32_t *entry) {
+static enum status entry_status(const struct table *table, struct cell cell, const uint32_t *entry) {
     if (clashes(cell, entry + 1)) return DEAD;
     enum status status = implies(cell, entry + 1) ? SURE : OPEN;
-    const uint32_t *condition = entry + 3 + (entry[0] >> 4 & 15);
+    const uint32_t *condition = entry + before_conditions(table, entry);
     for (uint32_t turn = 0; turn < (entry[0] & 15); turn++, condition += 3 + 3 * (condition[0] & 15)) {
         enum status its = condition_status(cell, condition);
         if (its == DEAD) return DEAD;
@@ -276,7 +305,7 @@ static uint32_t first_step(const struct table *table, struct cell cell) {
     enum status status[256];
     uint32_t live = 0;
     for (uint32_t entry = 0; entry < table->entries; entry++) {
-        status[entry] = entry_status(cell, entry_at(table, entry));
+        status[entry] = entry_status(table, cell, entry_at(table, entry));
         live += status[entry] != DEAD;
     }
     for (uint32_t entry = 0; entry < table->entries; entry++) {
@@ -340,7 +369,7 @@ static uint64_t refused_list(uint32_t number, size_t place) { return (uint64_t)n
 
 /* "After 1-4 it says yes exactly when: ..; otherwise its answer is 14." */
 static uint64_t reference_check(const uint32_t *words, size_t count, const uint32_t *tree, size_t tree_words, enum check without) {
-    struct table table = {words, count, 0, 0, 0, 0, 0, {0}, NONE, without};
+    struct table table = table_of(words, count, without);
     if (!read_table(&table)) return refused_list(table.number, table.place);
     return accepts(&table, tree, tree_words, without) ? 0 : refused_list(14, 0);
 }
@@ -349,28 +378,22 @@ static uint64_t reference_check(const uint32_t *words, size_t count, const uint3
 
 struct sizing {
     struct table table;
-    uint32_t nodes, tests, conflicts, word, came; /* came: a bit for each part of the rule that the input came by */
+    uint32_t nodes, tests, conflicts, word;
     int full;
     uint64_t result;
 };
-
-/* Whether this part of the rule is kept. */
-static int keeps(struct sizing *sizing, enum check part) {
-    sizing->came |= (uint32_t)1 << (part - LIST_END);
-    return sizing->table.without != part;
-}
 
 /* The unfixed bits "in any pattern of an open condition of an open entry". */
 static uint32_t condition_bits(struct sizing *sizing, struct cell cell) {
     uint32_t bits = 0;
     for (uint32_t turn = 0; turn < sizing->table.entries; turn++) {
-        const uint32_t *entry = entry_at(&sizing->table, turn), *condition = entry + 3 + (entry[0] >> 4 & 15);
-        uint32_t left = entry_status(cell, entry) == OPEN ? entry[0] & 15 : 0;
+        const uint32_t *entry = entry_at(&sizing->table, turn), *condition = entry + before_conditions(&sizing->table, entry);
+        uint32_t left = entry_status(&sizing->table, cell, entry) == OPEN ? entry[0] & 15 : 0;
         for (; left > 0; left--, condition += 3 + 3 * (condition[0] & 15)) {
             if (condition_status(cell, condition) != OPEN) continue;
             bits |= condition[1];
             for (uint32_t more = 1; more <= (condition[0] & 15); more++)
-                if (keeps(sizing, UNMATCHING_TOO)) bits |= condition[1 + 3 * more];
+                if (keeps(&sizing->table, UNMATCHING_TOO)) bits |= condition[1 + 3 * more];
         }
     }
     return bits & ~cell.fixed;
@@ -381,36 +404,37 @@ static uint32_t tested_bit(struct sizing *sizing, struct cell cell) {
     uint32_t masks[32] = {0}, best = 32;
     for (uint32_t turn = 0; turn < sizing->table.entries; turn++) {
         const uint32_t *entry = entry_at(&sizing->table, turn);
-        if (entry_status(cell, entry) != OPEN) continue;
+        if (entry_status(&sizing->table, cell, entry) != OPEN) continue;
         for (uint32_t bit = 0; bit < 32; bit++) masks[bit] += (entry[1] & ~cell.fixed) >> bit & 1;
     }
     /* "The bit is the unfixed one in the opcode masks of the most open entries, highest on a tie." */
     for (uint32_t bit = 0; bit < 32; bit++) {
         if (masks[bit] == 0) continue;
         if (best == 32 || masks[bit] > masks[best]) best = bit;
-        else if (masks[bit] == masks[best] ? keeps(sizing, HIGHEST_ON_TIE) : !keeps(sizing, MOST_MASKS)) best = bit;
+        else if (masks[bit] == masks[best] ? keeps(&sizing->table, HIGHEST_ON_TIE) : !keeps(&sizing->table, MOST_MASKS)) best = bit;
     }
     /* "If no such mask has an unfixed bit, it is the highest unfixed bit in any pattern of an open condition of an open entry." */
     uint32_t others = best == 32 ? condition_bits(sizing, cell) : 0;
     for (uint32_t bit = 0; bit < 32; bit++)
-        if ((others >> bit & 1) != 0 && (best == 32 || keeps(sizing, HIGHEST_UNFIXED))) best = bit;
+        if ((others >> bit & 1) != 0 && (best == 32 || keeps(&sizing->table, HIGHEST_UNFIXED))) best = bit;
     return best;
 }
 
 /* Counts the nodes of a cell, "zero side first", as far as they fit. */
 static void size_from(struct sizing *sizing, struct cell cell, uint32_t tests) {
     /* Without the limit: up to what the sixteen bits of a header count. */
-    uint32_t most = sizing->nodes + 2 > MOST_TREE_WORDS && !keeps(sizing, TREE_LIMIT) ? 65536 : MOST_TREE_WORDS;
+    uint32_t most = sizing->nodes + 2 > MOST_TREE_WORDS && !keeps(&sizing->table, TREE_LIMIT) ? 65536 : MOST_TREE_WORDS;
     sizing->full |= sizing->nodes + 2 > most;
     if (sizing->full) return;
     sizing->nodes++;
     int leaf = first_step(&sizing->table, cell) != NEITHER;
     uint32_t bit = leaf ? 32 : tested_bit(sizing, cell);
     if (bit == 32) {
-        if (tests > sizing->tests || (tests < sizing->tests && !keeps(sizing, DEEPEST))) sizing->tests = tests;
-        if (leaf) return;
+        if (tests > sizing->tests || (tests < sizing->tests && !keeps(&sizing->table, DEEPEST))) sizing->tests = tests;
+        /* "Selection, tree and fields do not depend on cycles": without, they decide a conflict. */
+        if (leaf || (sizing->table.has_cycles && !keeps(&sizing->table, CYCLES_ASIDE))) return;
         /* "that of the first conflict cell in node order, free bits zero" */
-        if (sizing->conflicts++ == 0 || !keeps(sizing, FIRST_CONFLICT)) sizing->word = cell.bits;
+        if (sizing->conflicts++ == 0 || !keeps(&sizing->table, FIRST_CONFLICT)) sizing->word = cell.bits;
         return;
     }
     struct cell zero = {cell.fixed | 1u << bit, cell.bits}, one = {cell.fixed | 1u << bit, cell.bits | 1u << bit};
@@ -420,16 +444,30 @@ static void size_from(struct sizing *sizing, struct cell cell, uint32_t tests) {
 
 /* "A tree fits when nodes + 1 is .. at most 16,384; conflict leaves count. Fit is decided before ambiguity." */
 static struct sizing reference_size(const uint32_t *words, size_t count, enum check without) {
-    struct sizing sizing = {{words, count, 0, 0, 0, 0, 0, {0}, NONE, without}, 0, 0, 0, 0, 0, 0, 0};
+    struct sizing sizing = {.table = table_of(words, count, without)};
     int good = read_table(&sizing.table);
     sizing.result = refused_list(sizing.table.number, sizing.table.place);
     if (!good) return sizing;
     struct cell none = {0, 0};
     size_from(&sizing, none, 0);
-    if (sizing.full && (sizing.conflicts == 0 || keeps(&sizing, FIT_FIRST))) sizing.result = refused_list(5, 0);
-    else if (sizing.conflicts > 0 && keeps(&sizing, CONFLICT)) sizing.result = refused_list(6, sizing.word);
+    if (sizing.full && (sizing.conflicts == 0 || keeps(&sizing.table, FIT_FIRST))) sizing.result = refused_list(5, 0);
+    else if (sizing.conflicts > 0 && keeps(&sizing.table, CONFLICT)) sizing.result = refused_list(6, sizing.word);
     else sizing.result = (uint64_t)sizing.tests << 16 | sizing.nodes;
     return sizing;
+}
+
+/* ------------------------------------------------------------------------- the cycles */
+
+/* "Kind 1 tables are still read, with cycles 0. .. A new call gives an entry's cycles, or after the table's faults 11 for no such entry."
+ * The table is read here; its `came` is for fuzz.c. */
+static uint64_t reference_cycles(struct table *table, uint32_t entry) {
+    int good = read_table(table), there = entry < table->entries;
+    if (!there && !good && !keeps(table, FAULTS_FIRST)) return refused_list(11, 0);
+    if (!good) return refused_list(table->number, table->place);
+    if (!there) return keeps(table, NO_SUCH_ENTRY) ? refused_list(11, 0) : 0;
+    /* A wrong one takes the word after the value for cycles, where there is one. */
+    int has_cycles = table->has_cycles || (!keeps(table, KIND_ONE_ZERO) && table->places[entry] + 3 < table->count);
+    return has_cycles ? entry_at(table, entry)[3] : 0;
 }
 
 /* ------------------------------------------------------------------------- the listing */
@@ -451,7 +489,7 @@ static int no_image_table(const struct table *table, enum check without) {
 
 /* "listing 15, 16, 14, 17". What a word selects is looked up in the table; the tree is only checked. */
 static uint64_t reference_list(struct lent lent, uint32_t *items, enum check without, enum check *stopped_by) {
-    struct table table = {lent.table, lent.table_words, 0, 0, 0, 0, 0, {0}, NONE, without};
+    struct table table = table_of(lent.table, lent.table_words, without);
     int good = read_table(&table);
     *stopped_by = table.stopped_by;
     if (!good) return refused_list(table.number, table.place);

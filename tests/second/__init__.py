@@ -1,1 +1,1 @@
-"""A second implementation of document 01, written from its text alone, to be compared with the first."""
+"""A second implementation of documents 01 and 02, written from their text alone, to be compared with the first."""

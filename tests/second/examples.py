@@ -1,5 +1,5 @@
-"""Tables and questions written by hand, with the lines of docs/probe.md that document 01 asks for (masks and sizes: document 02's
-No. 1 and No. 2).
+"""Tables and questions written by hand, with the lines of docs/probe.md that document 01 asks for (masks, sizes and cycles: document
+02's No. 1 to No. 3).
 
 Nothing here is computed by the second implementation: every number, place and mask was written out by reading the documents.
 """
@@ -32,6 +32,25 @@ WORKED = table("""
     200f0810 000000f3 00000002 30000202
     20100830 000000b0 00000030 30000601 30000202 30000002
 """)
+
+# The smallest table with cycles, which are 77, and a field: the printed one.
+CYCLES_77 = table("60010002 20050210 00000002 00000002 0000004d 30000001")
+
+# The worked table with cycles: 1, 2, 0, 65535, 256, 77 and 40000.
+WORKED_CYCLES = table("""
+    60070008
+    200a0832 000000c0 00000000 00000001 30000402 30000202 30000002
+      40000002 00000030 00000000 50000000 00000003 00000000 50000000 00000003 00000003
+      40000000 00000030 00000030
+    200b0831 000000c0 00000040 00000002 30000402 30000202 30000002
+      40000000 00000030 00000030
+    200c0820 000000c3 00000080 00000000 30000402 30000202
+    200d0820 000000c3 00000081 0000ffff 30000402 30000202
+    200e0810 000000f3 00000001 00000100 30000202
+    200f0810 000000f3 00000002 0000004d 30000202
+    20100830 000000b0 00000030 00009c40 30000601 30000202 30000002
+""")
+CYCLES_OF_WORKED = [1, 2, 0, 65535, 256, 77, 40000]
 
 # Width 3: the patterns of document 01's examples.
 ZERO_HIGH_ZERO_LOW = table("10020003 20000310 00000004 00000000 30000002 20010310 00000001 00000000 30000102")
@@ -72,6 +91,17 @@ FOUR_WORD_ENTRY = table("20000910 000001fe 00000000 30000001")
 # 1 + 72 x 227 + 13 x 3 words are 16,384; with one field more they are 16,385.
 LONGEST = [0x10550009] + LONG_ENTRY * 72 + SHORT_ENTRY * 13
 ONE_TOO_LONG = [0x10550009] + LONG_ENTRY * 72 + SHORT_ENTRY * 12 + FOUR_WORD_ENTRY
+
+
+def entry_with(words, cycles):
+    """An entry's words with its cycles after the value."""
+    return words[:3] + [cycles] + words[3:]
+
+
+# With cycles 1 + 71 x 228 + 45 x 4 + 3 x 5 words are 16,384; with one field more they are 16,385.
+LONGEST_CYCLES = [0x60770009] + entry_with(LONG_ENTRY, 65535) * 71 + entry_with(SHORT_ENTRY, 9) * 45 + entry_with(FOUR_WORD_ENTRY, 0) * 3
+ONE_TOO_LONG_CYCLES = [0x60770009] + entry_with(LONG_ENTRY, 65535) * 71 + entry_with(SHORT_ENTRY, 9) * 44 \
+    + entry_with(FOUR_WORD_ENTRY, 0) * 4
 
 
 # (what it shows, the table's words, the line of request 1)
@@ -215,6 +245,60 @@ READ_EXAMPLES = [
     ("bad in the second entry, words left over", table("10020001 20000100 00000001 00000000 20000100 00000001 00000002 "
                                                        "00000000"), "1 3 5 00000000"),
     ("bad unmatching pattern, then a bad entry", EVERY_KIND[:8] + table("50000000 00000004 00000000 00000000"), "1 3 9 00000000"),
+
+    # Kind 6, good: width and number of entries.
+    ("77 cycles", CYCLES_77, "1 0 0 00000000 2 1"),
+    ("the worked table with cycles", WORKED_CYCLES, "1 0 0 00000000 8 7"),
+    ("cycles, no entries, width 1", table("60000001"), "1 0 0 00000000 1 0"),
+    ("cycles, no entries, width 32", table("60000020"), "1 0 0 00000000 32 0"),
+    ("0 cycles, no field", table("60010001 20000100 00000001 00000000 00000000"), "1 0 0 00000000 1 1"),
+    ("65,535 cycles, no field", table("60010001 20000100 00000001 00000000 0000ffff"), "1 0 0 00000000 1 1"),
+    ("256 entries with cycles", [0x61000001] + entry_with(SMALL_ENTRY, 300) * 256, "1 0 0 00000000 1 256"),
+    ("16,384 words with cycles", LONGEST_CYCLES, "1 0 0 00000000 9 119"),
+
+    # Kind 6, number 1: the first word is kind 1's but for the kind.
+    ("16,385 words with cycles, otherwise good", ONE_TOO_LONG_CYCLES, "1 1 0 00000000"),
+    ("kind 6, 257 entries said", table("61010002 20050210 00000002 00000002 0000004d 30000001"), "1 1 0 00000000"),
+    ("kind 6, bit 8 set", table("60010102 20050210 00000002 00000002 0000004d 30000001"), "1 1 0 00000000"),
+    ("kind 6, bit 15 set", table("60018002 20050210 00000002 00000002 0000004d 30000001"), "1 1 0 00000000"),
+    ("kind 6, width 0", table("60000000"), "1 1 0 00000000"),
+    ("kind 6, width 33", table("60010021 20050210 00000002 00000002 0000004d 30000001"), "1 1 0 00000000"),
+    ("first word of kind 5", table("50010002 20050210 00000002 00000002 0000004d 30000001"), "1 1 0 00000000"),
+    ("first word of kind 7", table("70010002 20050210 00000002 00000002 0000004d 30000001"), "1 1 0 00000000"),
+    ("first word of kind 14", table("e0010002 20050210 00000002 00000002 0000004d 30000001"), "1 1 0 00000000"),
+
+    # Kind 6, number 2: the cycles' own index, or the table's length if they are not there.
+    ("65,536 cycles", table("60010002 20050210 00000002 00000002 00010000 30000001"), "1 2 4 00000000"),
+    ("cycles with bit 31 set", table("60010002 20050210 00000002 00000002 8000004d 30000001"), "1 2 4 00000000"),
+    ("cycles all ones", table("60010002 20050210 00000002 00000002 ffffffff 30000001"), "1 2 4 00000000"),
+    ("65,536 cycles, no field", table("60010001 20000100 00000001 00000000 00010000"), "1 2 4 00000000"),
+    ("65,536 cycles in the second entry", table("60020001 20000100 00000001 00000000 00000005 20000100 00000001 00000001 00010000"),
+     "1 2 8 00000000"),
+    ("cut before the cycles", CYCLES_77[:4], "1 2 4 00000000"),
+    ("cut before the cycles, no field", table("60010001 20000100 00000001 00000000"), "1 2 4 00000000"),
+    ("cut before the second entry's cycles", table("60020001 20000100 00000001 00000000 00000005 20000100 00000001 00000001"),
+     "1 2 8 00000000"),
+    ("kind 6, cut after the mask", CYCLES_77[:3], "1 2 3 00000000"),
+    ("kind 6, cut after the entry", CYCLES_77[:2], "1 2 2 00000000"),
+    ("cut after the cycles", CYCLES_77[:5], "1 2 5 00000000"),
+    ("a word after the cycles of the last entry", table("60010001 20000100 00000001 00000000 00000005 00000000"), "1 2 5 00000000"),
+    # The field is taken for the cycles, and the cycles for the field.
+    ("kind 6 without cycles", table("60010002 20050210 00000002 00000002 30000001"), "1 2 4 00000000"),
+    ("kind 1 with cycles", table("10010002 20050210 00000002 00000002 0000004d 30000001"), "1 2 4 00000000"),
+    ("kind 1 with cycles, no field", table("10010001 20000100 00000001 00000000 00000005"), "1 2 4 00000000"),
+
+    # Kind 6, two faults: mask and value are judged before the cycles, fields and cover after them.
+    ("a bad mask and 65,536 cycles", table("60010002 20050210 00000004 00000000 00010000 30000001"), "1 3 2 00000000"),
+    ("a bad value and cycles all ones", table("60010002 20050210 00000002 00000003 ffffffff 30000001"), "1 3 2 00000000"),
+    ("a bad mask, then the end before the cycles", table("60010002 20050210 00000004 00000000"), "1 3 2 00000000"),
+    ("65,536 cycles and a field of width 0", table("60010002 20050210 00000002 00000002 00010000 30000000"), "1 2 4 00000000"),
+    ("65,536 cycles and a field of kind 4", table("60010002 20050210 00000002 00000002 00010000 40000001"), "1 2 4 00000000"),
+    ("65,536 cycles and not covered", table("60010002 20050200 00000002 00000002 00010000"), "1 2 4 00000000"),
+    ("not covered, and the end before the cycles", table("60010002 20050200 00000002 00000002"), "1 2 4 00000000"),
+    ("65,536 cycles as the last word", table("60010002 20050210 00000002 00000002 00010000"), "1 2 4 00000000"),
+    ("cycles, then not covered", table("60010002 20050200 00000002 00000002 0000004d"), "1 4 1 00000000"),
+    ("cycles, then a field of width 0", table("60010002 20050210 00000002 00000002 0000004d 30000000"), "1 4 5 00000000"),
+    ("cycles, then a condition of kind 5", table("60010002 20050211 00000002 00000002 0000004d 30000001 50000000"), "1 2 6 00000000"),
 ]
 
 
@@ -709,4 +793,95 @@ STEP_MASK_EXAMPLES = [
      "8 0 0 00000000 c0000000 1 80000001"),
     ("a step at nothing, bit 31 tested", step(ZERO_BELOW, ZERO_BELOW_TREE, "01000080", 0), "8 0 0 00000000 d0000000 1 80000000"),
     ("a step, no test", step([0x10000020], NO_TREE, "34120180", 1), "8 0 0 00000000 d0000001 2 00000000"),
+]
+
+
+# ---------------------------------------------------------------------------- cycles
+
+def cycles(words, entry):
+    return ("cycles", words, entry)
+
+
+# Twice 1-, with 1 cycle and with 2: cycles decide nothing.
+TWINS_CYCLES = table("60020002 20050210 00000002 00000002 00000001 30000001 20050210 00000002 00000002 00000002 30000001")
+
+# Width 32, as above, with 3 and 65,535 cycles.
+SHORT_OR_LONG_CYCLES = table("60020020 20001010 80000000 00000000 00000003 3000100f 20012010 c0000000 80000000 0000ffff 3000001e")
+
+MANY_CYCLES = table("60010002 20050210 00000002 00000002 00010000 30000001")      # 65,536
+NO_SUCH = "13 11 0 00000000"
+
+# (what it shows, the question, the line). But for request 13 the lines are those of the tables without cycles.
+CYCLES_EXAMPLES = [
+    ("77 cycles", cycles(CYCLES_77, 0), "13 0 0 00000000 77"),
+    ("77 cycles, entry 1", cycles(CYCLES_77, 1), NO_SUCH),
+    *((f"cycles of {'ABCDEFG'[entry]}", cycles(WORKED_CYCLES, entry), f"13 0 0 00000000 {number}")
+      for entry, number in enumerate(CYCLES_OF_WORKED)),
+    *((f"worked table, cycles of entry {entry}", cycles(WORKED_CYCLES, entry), NO_SUCH)
+      for entry in (7, 8, 255, 256, 262, 0x10000, 0x80000000, 0xFFFFFFFF)),
+    ("cycles of twins, the first", cycles(TWINS_CYCLES, 0), "13 0 0 00000000 1"),
+    ("cycles of twins, the second", cycles(TWINS_CYCLES, 1), "13 0 0 00000000 2"),
+    ("cycles, entry 255 of 256", cycles([0x61000001] + entry_with(SMALL_ENTRY, 7) * 255 + entry_with(SMALL_ENTRY, 300), 255),
+     "13 0 0 00000000 300"),
+    ("16,384 words, cycles of the last", cycles(LONGEST_CYCLES, 118), "13 0 0 00000000 0"),
+    ("16,384 words, cycles of the last of 228 words", cycles(LONGEST_CYCLES, 70), "13 0 0 00000000 65535"),
+    ("16,384 words, cycles after it", cycles(LONGEST_CYCLES, 71), "13 0 0 00000000 9"),
+
+    # "Kind 1 tables are still read, with cycles 0." Field words, heads or nothing stand after their values.
+    ("kind 1, cycles", cycles(PRINTED, 0), "13 0 0 00000000 0"),
+    ("kind 1, cycles of G", cycles(WORKED, 6), "13 0 0 00000000 0"),
+    ("kind 1, no field, cycles", cycles([0x10010001, *SMALL_ENTRY], 0), "13 0 0 00000000 0"),
+    ("kind 1, cycles of entry 7", cycles(WORKED, 7), NO_SUCH),
+    ("no entries, kind 1, cycles", cycles([0x10000001], 0), NO_SUCH),
+    ("no entries, kind 6, cycles", cycles([0x60000001], 0), NO_SUCH),
+
+    # 1 to 4 before 11.
+    ("cycles in the empty table", cycles([], 0), "13 1 0 00000000"),
+    ("cycles, kind 7", cycles(table("70000001"), 0), "13 1 0 00000000"),
+    ("cycles in a bad table, no such entry", cycles(BAD, 9), "13 2 5 00000000"),
+    ("65,536 cycles asked", cycles(MANY_CYCLES, 0), "13 2 4 00000000"),
+    ("65,536 cycles, no such entry", cycles(MANY_CYCLES, 1), "13 2 4 00000000"),
+    ("cycles not there", cycles(CYCLES_77[:4], 0), "13 2 4 00000000"),
+    ("cycles not there, nor the value", cycles(CYCLES_77[:3], 0), "13 2 3 00000000"),
+    ("cycles not there, nor the mask", cycles(CYCLES_77[:2], 0), "13 2 2 00000000"),
+    ("cycles, opcode value outside the mask", cycles(table("60010002 20050210 00000002 00000003 00010000 30000001"), 0), "13 3 2 00000000"),
+    ("too many cycles and a field of width 0", cycles(table("60010002 20050210 00000002 00000002 00010000 30000000"), 0), "13 2 4 00000000"),
+    ("too many cycles and not covered", cycles(table("60010002 20050200 00000002 00000002 00010000"), 0), "13 2 4 00000000"),
+    ("cycles, not covered", cycles(table("60010002 20050200 00000002 00000002 0000004d"), 5), "13 4 1 00000000"),
+
+    # Selection and fields.
+    *((f"with cycles, {word:#04x}", lookup(WORKED_CYCLES, word), f"2 0 0 00000000 {named}") for word, named, _, _ in MARKED),
+    ("77 cycles, word 3", lookup(CYCLES_77, 3), "2 0 0 00000000 0"),
+    ("77 cycles, word 1", lookup(CYCLES_77, 1), "2 0 0 00000000 nothing"),
+    ("77 cycles, word 4", lookup(CYCLES_77, 4), "2 7 0 00000000"),
+    ("twins with cycles are ambiguous", lookup(TWINS_CYCLES, 3), "2 6 0 00000003"),
+    ("65,536 cycles, word 3", lookup(MANY_CYCLES, 3), "2 2 4 00000000"),
+    ("77 cycles, decoded", decode(CYCLES_77, 3, EIGHTS),
+     "5 0 0 00000000 0 | 00000001 88888888 88888888 88888888 88888888 88888888 88888888 88888888"),
+    ("with cycles, 0x36 decodes to G, f 0, b 1, c 2", decode(WORKED_CYCLES, 0x36, EIGHTS),
+     "5 0 0 00000000 6 | 00000000 00000001 00000002 88888888 88888888 88888888 88888888 88888888"),
+    ("65,536 cycles, decoded", decode(MANY_CYCLES, 3, EIGHTS), "5 2 4 00000000 " + KEPT),
+    ("77 cycles, encoded", encode(CYCLES_77, 0, [1]), "6 0 0 00000000 00000003"),
+    ("77 cycles, a value that does not fit", encode(CYCLES_77, 0, [2]), "6 12 0 00000000"),
+    ("with cycles, A with 0, 0, 1 is E's word", encode(WORKED_CYCLES, 0, [0, 0, 1]), "6 13 0 00000001"),
+    ("with cycles, G with 1, 2, 3", encode(WORKED_CYCLES, 6, [1, 2, 3]), "6 0 0 00000000 0000007b"),
+    ("65,536 cycles, encoded", encode(MANY_CYCLES, 9, []), "6 2 4 00000000"),
+
+    # The tree, its size, and what is done with it.
+    ("77 cycles, 5 words", generate(CYCLES_77, 5), "3 0 0 00000000 4 | " + tree_text(PRINTED_TREE) + " 55555555"),
+    ("77 cycles, 3 words", generate(CYCLES_77, 3), "3 5 0 00000000 | 00000000 00000000 00000000"),
+    ("with cycles, 28 words", generate(WORKED_CYCLES, 28), "3 0 0 00000000 28 | " + tree_text(WORKED_TREE)),
+    ("no entries, kind 6", generate([0x60000020], 3), "3 0 0 00000000 2 | 70200001 a0000000 33333333"),
+    ("twins with cycles, 4 words", generate(TWINS_CYCLES, 4), "3 6 0 00000002 | 00000000 00000000 00000000 00000000"),
+    ("65,536 cycles, 2 words", generate(MANY_CYCLES, 2), "3 2 4 00000000 | 11111111 22222222"),
+    ("size, 77 cycles", size(CYCLES_77), "12 0 0 00000000 3 1"),
+    ("size of the worked table with cycles", size(WORKED_CYCLES), "12 0 0 00000000 27 6"),
+    ("size of twins with cycles", size(TWINS_CYCLES), "12 6 0 00000002"),
+    ("size, 65,536 cycles", size(MANY_CYCLES), "12 2 4 00000000"),
+    ("with cycles, the worked tree", check(WORKED_CYCLES, WORKED_TREE), ACCEPTED),
+    ("with cycles, the leaves swapped", check(CYCLES_77, "70020003 80800003 90000000 a0000000"), SAYS_NO),
+    ("65,536 cycles, checked", check(MANY_CYCLES, PRINTED_TREE), "7 2 4 00000000"),
+    ("six halfwords with cycles, 5 words", listing(SHORT_OR_LONG_CYCLES, SHORT_OR_LONG_TREE, SIX_HALVES, 5),
+     "9 0 0 00000000 5 | c0000000 c0100001 d0000003 c0000004 e0000005"),
+    ("a step at 1, with cycles", step(SHORT_OR_LONG_CYCLES, SHORT_OR_LONG_TREE, SIX_HALVES, 1), "8 0 0 00000000 c0100001 3 c0000000"),
 ]

@@ -1,6 +1,6 @@
 """The line of docs/probe.md that the second implementation gives for a question."""
 
-from second import measure, selection, walk
+from second import cost, measure, selection, walk
 from second.checker import check
 from second.image import END, list_items, step
 from second.reader import Refusal, read
@@ -99,14 +99,23 @@ def measure_line(words):
     return size_line(measure.measure(words))
 
 
+def cost_line(outcome):
+    return "13 " + refusal_text(outcome) + result_text(outcome, str(outcome))
+
+
+def cycles_line(words, entry):
+    return cost_line(cost.cycles(words, entry))
+
+
 def line_of(question):
     """A question is ("read", table), ("lookup", table, word), ("generate", table, buffer), ("walk bytes", bytes, word),
     ("decode", table, word, buffer), ("encode", table, entry, values), ("check", table, tree), ("step", table, tree, image,
-    address), ("list", table, tree, image, buffer), ("walk", tree, word), ("mask", bytes, word) or ("measure", table)."""
+    address), ("list", table, tree, image, buffer), ("walk", tree, word), ("mask", bytes, word), ("measure", table) or
+    ("cycles", table, entry)."""
     name, *parts = question
     makers = {"read": read_line, "lookup": lookup_line, "generate": generate_line, "walk bytes": walk_bytes_line,
               "decode": decode_line, "encode": encode_line, "check": check_line, "step": step_line, "list": list_line,
-              "walk": walk_line, "mask": mask_line, "measure": measure_line}
+              "walk": walk_line, "mask": mask_line, "measure": measure_line, "cycles": cycles_line}
     return makers[name](*parts)
 
 

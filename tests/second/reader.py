@@ -1,7 +1,7 @@
-"""A second reader of pattern tables, written from document 01 alone.
+"""A second reader of pattern tables, written from document 01 alone, and cycles from document 02's No. 3.
 
 It reads a table the way one does by hand: word after word, each word judged as soon as it is read,
-bit positions kept as sets of numbers. Quotations in the comments are sentences of document 01.
+bit positions kept as sets of numbers. Quotations in the comments are sentences of document 01 where nothing else is said.
 """
 
 from dataclasses import dataclass
@@ -39,6 +39,7 @@ class Entry:
     label: int
     length: int
     opcode: Pattern
+    cycles: int
     fields: tuple
     conditions: tuple
 
@@ -97,8 +98,8 @@ def read_table(words):
     if len(words) == 0 or len(words) > 16384:
         raise Fault(1, 0)
     reading = Reading(words)
-    count, width = read_first_word(reading)
-    entries = tuple(read_entry(reading, width) for _ in range(count))
+    count, width, with_cycles = read_first_word(reading)
+    entries = tuple(read_entry(reading, width, with_cycles) for _ in range(count))
     # "Nothing follows the last entry." "words left over": 2, the index of the first of them.
     if reading.next < len(words):
         raise Fault(2, reading.next)
@@ -108,10 +109,12 @@ def read_table(words):
 def read_first_word(reading):
     # "Kind 1, first word: bits 27-16 number of entries (0-256), bits 7-0 width in bits (1-32)."
     # Whatever is wrong in it is "wrong first word": 1, "of two at one word the lower".
+    # Document 02: "A table that begins with kind 6 in place of kind 1 has" cycles. The rest of the word is the same.
     word = reading.take()
+    kind = bits(word, 31, 28)
     count = bits(word, 27, 16)
     width = bits(word, 7, 0)
-    if bits(word, 31, 28) != 1:
+    if kind not in (1, 6):
         raise Fault(1, 0)
     if bits(word, 15, 8) != 0:
         raise Fault(1, 0)
@@ -119,7 +122,7 @@ def read_first_word(reading):
         raise Fault(1, 0)
     if width < 1 or width > 32:
         raise Fault(1, 0)
-    return count, width
+    return count, width, kind == 6
 
 
 def read_head(reading, kind, spare_high=None, spare_low=None):
@@ -145,7 +148,16 @@ def read_pattern(reading, own):
     return Pattern(mask, value)
 
 
-def read_entry(reading, width):
+def read_cycles(reading):
+    # Document 02: "a word with its cycles, 0 to 65,535, upper bits zero, else number 2".
+    place = reading.next
+    word = reading.take()
+    if bits(word, 31, 16) != 0:
+        raise Fault(2, place)
+    return word
+
+
+def read_entry(reading, width, with_cycles):
     # "Kind 2, entry: bits 27-16 label, bits 15-8 length in bits (1 to width), bits 7-4 fields (0-8),
     # bits 3-0 conditions (0-8). Two plain words follow, mask and value." It has no spare bit.
     head, place = read_head(reading, 2)
@@ -160,6 +172,8 @@ def read_entry(reading, width):
     # "its own bits are width-1 down to width-length".
     own = frozenset(range(width - length, width))
     opcode = read_pattern(reading, own)
+    # Document 02: "after each entry's value word, a word with its cycles"; "Kind 1 tables are still read, with cycles 0."
+    cycles = read_cycles(reading) if with_cycles else 0
     # "After an entry come its fields, then its conditions".
     covered = set(opcode.mask)
     fields = tuple(read_field(reading, own, covered) for _ in range(field_count))
@@ -168,7 +182,7 @@ def read_entry(reading, width):
     if covered != own:
         raise Fault(4, place)
     conditions = tuple(read_condition(reading, own) for _ in range(condition_count))
-    return Entry(label, length, opcode, fields, conditions)
+    return Entry(label, length, opcode, cycles, fields, conditions)
 
 
 def read_field(reading, own, covered):

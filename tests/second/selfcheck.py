@@ -11,9 +11,9 @@ from pathlib import Path
 
 sys.path.insert(0, str(Path(__file__).resolve().parent.parent))
 
-from second import checker, checktrees, examples, image, images, measure, selection, tables, tree, trees, walk, wrong_masks, \
-    wrong_sizes
-from second.lines import line_of, mktree_text, read_line
+from second import checker, checktrees, cost, examples, image, images, measure, reader, selection, tables, tree, trees, twins, walk, \
+    wrong_cycles, wrong_masks, wrong_sizes
+from second.lines import line_of, mktree_text
 from second.reader import Refusal, Table, read
 
 
@@ -34,26 +34,30 @@ def line_or_fault(question):
         return f"broken off: {fault!r}"
 
 
-def wrong_examples():
-    """The names of the hand-written examples that the second implementation doesn't meet."""
-    wrong = [name for name, words, line in examples.READ_EXAMPLES if read_line(words) != line]
-    asked = examples.SELECTION_EXAMPLES + examples.TREE_EXAMPLES + examples.CHECK_EXAMPLES + examples.IMAGE_EXAMPLES \
-        + examples.STEP_MASK_EXAMPLES + examples.SIZE_EXAMPLES
-    asked = asked + [("the bit of the most masks", ("generate", MOST_MASKS, [0] * 6), MOST_MASKS_LINE)]
-    wrong += [name for name, question, line in asked if line_or_fault(question) != line]
-    printed = b"".join(word.to_bytes(4, "little") for word in examples.PRINTED)
-    if mktree_text(printed) != examples.PRINTED_TEXT:
-        wrong.append("what mktree prints")
-    return wrong
+# A table in which the bit of the most masks isn't the highest: 1-0, 0-0 and --1 (bit 0 is in three masks, bit 2 in two).
+MOST_MASKS = examples.table("""10030003 20000310 00000005 00000004 30000101 20000310 00000005 00000000 30000101
+    20000310 00000001 00000001 30000102""")
+MOST_MASKS_LINE = "3 0 0 00000000 6 | 70030005 80000005 81000004 90000001 90000000 90000002"
+
+# The hand-written examples: (name, question, line)
+ASKED = [(name, ("read", words), line) for name, words, line in examples.READ_EXAMPLES] + examples.SELECTION_EXAMPLES \
+    + examples.TREE_EXAMPLES + examples.CHECK_EXAMPLES + examples.IMAGE_EXAMPLES + examples.STEP_MASK_EXAMPLES \
+    + examples.SIZE_EXAMPLES + examples.CYCLES_EXAMPLES \
+    + [("the bit of the most masks", ("generate", MOST_MASKS, [0] * 6), MOST_MASKS_LINE)]
+
+
+def is_met(question, line):
+    return line_or_fault(question) == line
 
 
 def check_examples():
-    wrong = wrong_examples()
-    if wrong:
-        fail(f"example: {wrong[0]}")
-    return sum(len(some) for some in (examples.READ_EXAMPLES, examples.SELECTION_EXAMPLES, examples.TREE_EXAMPLES,
-                                      examples.CHECK_EXAMPLES, examples.IMAGE_EXAMPLES, examples.STEP_MASK_EXAMPLES,
-                                      examples.SIZE_EXAMPLES)) + 1
+    for name, question, line in ASKED:
+        if not is_met(question, line):
+            fail(f"example: {name}")
+    printed = b"".join(word.to_bytes(4, "little") for word in examples.PRINTED)
+    if mktree_text(printed) != examples.PRINTED_TEXT:
+        fail("example: what mktree prints")
+    return len(ASKED) + 1
 
 
 # Document 01's "Mistakes to exclude", and a few neighbours: with each of them made, an example must fail.
@@ -229,17 +233,23 @@ def tree_first(words, lent, data):
     return answer if isinstance(answer, Refusal) else RIGHT["refusal_before_items"](words, lent, data)
 
 
-# A table in which the bit of the most masks isn't the highest: 1-0, 0-0 and --1 (bit 0 is in three masks, bit 2 in two).
-MOST_MASKS = examples.table("""10030003 20000310 00000005 00000004 30000101 20000310 00000005 00000000 30000101
-    20000310 00000001 00000001 30000102""")
-MOST_MASKS_LINE = "3 0 0 00000000 6 | 70030005 80000005 81000004 90000001 90000000 90000002"
+def any_cycles(reading):
+    """Mistake: the cycles' upper bits are not looked at."""
+    return reading.take()
 
-HOMES = {selection: ("satisfied", "more_specific", "select"), tree: ("entry_status", "condition_status", "chosen_bit",
-         "conflict_word"), walk: ("damaged", "header_good", "packed", "walk", "mask_bytes"),
+
+def cycles_of_no_word(reading):
+    """Mistake: the cycles word isn't there."""
+    return 0
+
+
+HOMES = {reader: ("read_cycles",), selection: ("satisfied", "more_specific", "select"),
+         tree: ("entry_status", "condition_status", "chosen_bit", "conflict_word"),
+         walk: ("damaged", "header_good", "packed", "walk", "mask_bytes"),
          checker: ("widths_equal", "none_damaged", "one_sides_begin_right", "all_used", "no_bit_twice", "named_right",
                    "nothing_right", "first_step"),
          image: ("word_at", "halfwords", "item_at", "no_image_table", "no_image", "refusal_before_items", "mask_at"),
-         measure: ("measure",)}
+         measure: ("measure",), cost: ("cycles",)}
 RIGHT = {name: getattr(home, name) for home, names in HOMES.items() for name in names}
 MISTAKES = [("satisfied", one_missed_is_enough, "0x00 A"),
             ("satisfied", unmatching_forgotten, "0x00 A"),
@@ -295,12 +305,28 @@ MISTAKES = [("satisfied", one_missed_is_enough, "0x00 A"),
             ("measure", wrong_sizes.nothing_left_out, "size, eight conditions"),
             ("measure", wrong_sizes.bits_of_all_paths, "size, other bits on the two sides"),
             ("measure", wrong_sizes.words_for_nodes, "size of the printed table"),
-            ("measure", wrong_sizes.word_left_out, "size of twins 1-")]
+            ("measure", wrong_sizes.word_left_out, "size of twins 1-"),
+            ("read_cycles", any_cycles, "65,536 cycles"),
+            ("read_cycles", any_cycles, "65,536 cycles, no field"),
+            ("read_cycles", cycles_of_no_word, "0 cycles, no field"),
+            ("more_specific", wrong_cycles.fewer_cycles_win, "twins with cycles are ambiguous"),
+            ("cycles", wrong_cycles.first_for_all, "cycles of B"),
+            ("cycles", wrong_cycles.next_entry, "cycles of twins, the first"),
+            ("cycles", wrong_cycles.word_after_value, "kind 1, cycles"),
+            ("cycles", wrong_cycles.low_byte, "cycles of D"),
+            ("cycles", wrong_cycles.one_entry_more, "77 cycles, entry 1"),
+            ("cycles", wrong_cycles.no_entry_first, "65,536 cycles, no such entry"),
+            ("cycles", wrong_cycles.seventeen_bits, "65,536 cycles asked"),
+            ("cycles", wrong_cycles.place_of_missing, "cycles not there, nor the mask"),
+            ("cycles", wrong_cycles.after_fields, "too many cycles and a field of width 0"),
+            ("cycles", wrong_cycles.after_fields, "too many cycles and not covered"),
+            ("cycles", wrong_cycles.before_opcode, "cycles, opcode value outside the mask")]
 
 
 def forget():
     """What was found with a mistake made must not be found again without it."""
-    for known in (tree.nodes_once, checker.steps_once, checker.first_missing_once, checker.check_once, image.selecting_once):
+    for known in (selection.read_once, tree.nodes_once, checker.steps_once, checker.first_missing_once, checker.check_once,
+                  image.selecting_once):
         known.cache_clear()
 
 
@@ -310,10 +336,10 @@ def check_mistakes():
         home = next(home for home, names in HOMES.items() if name in names)
         setattr(home, name, mistake)
         forget()
-        wrong = wrong_examples()
+        noticed = any(not is_met(question, line) for known, question, line in ASKED if known == example)
         setattr(home, name, RIGHT[name])
         forget()
-        if example not in wrong:
+        if not noticed:
             fail(f"the mistake {mistake.__name__} isn't noticed by: {example}")
     return len(MISTAKES)
 
@@ -331,19 +357,44 @@ def as_plan(table):
         fields = [(one.lowest, one.width) for one in entry.fields]
         conditions = [(as_pattern(one.matching), [as_pattern(other) for other in one.unmatching])
                       for one in entry.conditions]
-        entries.append(tables.EntryPlan(entry.label, entry.length, mask, value, fields, conditions))
+        entries.append(tables.EntryPlan(entry.label, entry.length, mask, value, fields, conditions, entry.cycles))
     return tables.TablePlan(table.width, entries)
 
 
-def check_good(plan, tally):
+def check_good(laid, tally):
     """A good table must read without fault, as exactly what was planned."""
-    words = tables.lay_out(plan).words
-    table = read(words)
+    table = read(laid.words)
     if not isinstance(table, Table):
-        fail(f"a good table gives {table}: {hexadecimal(words)}")
-    if as_plan(table) != plan:
-        fail(f"a good table was read as something else: {hexadecimal(words)}")
-    tally["good"] += 1
+        fail(f"a good table gives {table}: {hexadecimal(laid.words)}")
+    if as_plan(table) != laid.plan:
+        fail(f"a good table was read as something else: {hexadecimal(laid.words)}")
+    tally[f"good, kind {twins.kind_of(laid.words)}"] += 1
+    tally["most cycles"] += any(entry.cycles == tables.MOST_CYCLES for entry in table.entries)
+
+
+def check_twin(plain, laid):
+    """The twins made of words are those that are laid out, and the cycles are those planned."""
+    cycles = [entry.cycles for entry in laid.plan.entries]
+    if twins.with_cycles(plain.words, cycles) != laid.words or twins.without_cycles(laid.words) != plain.words \
+            or twins.cycles_of(laid.words) != cycles or any(twins.cycles_of(plain.words)):
+        fail(f"the twin of a table isn't the one laid out: {hexadecimal(plain.words)}, {hexadecimal(laid.words)}")
+    if [cost.cycles(laid.words, number) for number in range(len(cycles) + 1)] != [*cycles, Refusal(11)]:
+        fail(f"the cycles are not those planned, {cycles}: {hexadecimal(laid.words)}")
+
+
+def check_good_tables(rng, tally):
+    for plan in good_plans(rng):
+        plain, laid = tables.lay_out_both(rng, plan)
+        check_good(plain, tally)
+        check_good(laid, tally)
+        check_twin(plain, laid)
+    for kind in (tables.PLAIN, tables.WITH_CYCLES):
+        laid = tables.lay_longest(rng, kind)
+        if len(laid.words) != tables.MOST_WORDS:
+            fail(f"the longest table of kind {kind} has {len(laid.words)} words")
+        check_good(laid, tally)
+    if tally["most cycles"] < 400:
+        fail(f"only {tally['most cycles']} tables with the most cycles")
 
 
 def good_plans(rng):
@@ -354,7 +405,6 @@ def good_plans(rng):
         yield tables.small_entries_plan(rng, width, rng.choice([100, 255, 256]))
     for width in (8, 17, 32):
         yield tables.TablePlan(width, [tables.full_entry(rng, width)])
-    yield tables.longest_plan(rng)
 
 
 def check_damage(expected, words):
@@ -368,9 +418,9 @@ def check_single_damages(rng, tally):
     done = Counter()
     for round_number in range(40):
         for width in range(1, 33):
-            laid = tables.lay_out(tables.good_plan(rng, width, most_entries=4))
+            laid = tables.lay_out_both(rng, tables.good_plan(rng, width, most_entries=4))[round_number % 2]
             chosen = [rng.choice(tables.USUAL_DAMAGES) for _ in range(12)]
-            if round_number == 0:
+            if round_number < 2:
                 chosen.append(tables.too_long)
             for kind in chosen:
                 damage = kind(rng, laid)
@@ -386,17 +436,17 @@ def check_single_damages(rng, tally):
 
 def check_cuts(rng, tally):
     for width in range(1, 33):
-        laid = tables.lay_out(tables.good_plan(rng, width, most_entries=3))
-        for damage in tables.every_cut(laid):
-            check_damage(damage, tables.damaged(laid.words, damage))
-            tally[2] += 1
+        for laid in tables.lay_out_both(rng, tables.good_plan(rng, width, most_entries=3)):
+            for damage in tables.every_cut(laid):
+                check_damage(damage, tables.damaged(laid.words, damage))
+                tally[2] += 1
 
 
 def check_double_damages(rng, tally):
     """Of two damages in different entries the one that shows first is reported."""
     done = 0
     for width in list(range(1, 33)) * 60:
-        laid = tables.lay_out(tables.good_plan(rng, width, most_entries=5))
+        laid = rng.choice(tables.lay_out_both(rng, tables.good_plan(rng, width, most_entries=5)))
         one, two = tables.some_damage(rng, laid), tables.some_damage(rng, laid)
         expected = tables.first_of(one, two)
         if expected is None:
@@ -584,6 +634,19 @@ def tree_plans(rng, width):
     yield tables.good_plan(rng, width, most_entries=5)
 
 
+def check_same(rng, plan, tally):
+    """Cycles change no lookup, no fields and no tree."""
+    words = tables.lay_out(plan).words
+    asked = tables.word_for(rng, plan)
+    questions = [("lookup", words, asked), ("decode", words, asked, [3] * 8), ("generate", words, [5] * 60), ("measure", words)]
+    questions += [("encode", words, number, tables.values_in(entry, asked)) for number, entry in enumerate(plan.entries)]
+    for question in questions:
+        line, other = line_of(question), line_of((question[0], twins.twin_of(rng, words), *question[2:]))
+        if line != other:
+            fail(f"{question[0]} says {line}, and of a twin {other}: {hexadecimal(words)}")
+        tally["same of twins"] += 1
+
+
 def check_trees(rng, tally):
     for width in list(range(1, 8)) * 9:
         for plan in tree_plans(rng, width):
@@ -593,6 +656,7 @@ def check_trees(rng, tally):
             words = tables.lay_out(plan).words
             if tree.nodes_of(read(words), 300) is not None:
                 check_tree_of(words, tally, [tables.word_for(rng, plan) for _ in range(12)])
+                check_same(rng, plan, tally)
     for depth in range(1, 7):
         for one_more in (False, True):
             plan = tables.full_tree_plan(rng, 7, depth, one_more and depth < 7)
@@ -607,7 +671,8 @@ def check_trees(rng, tally):
             fail(f"a tree at the limit gives {outcome} and not {length}")
         if measure.measure(words) != (length if isinstance(length, Refusal) else (length - 1, 13)):
             fail(f"a tree at the limit has the size {measure.measure(words)}, generating gives {length}")
-    for what, least in (("trees", 350), ("ambiguous trees", 60), ("outcome 5", 700), ("outcome 6", 100), ("outcome tree", 400)):
+    for what, least in (("trees", 350), ("ambiguous trees", 60), ("outcome 5", 700), ("outcome 6", 100), ("outcome tree", 400),
+                        ("same of twins", 700)):
         if tally[what] < least:
             fail(f"only {tally[what]} of {what}")
 
@@ -724,7 +789,7 @@ def check_limits(tally):
 
 
 def check_lister(rng, tally):
-    while tally["listed images"] < 150:
+    while tally["listed images"] < 200:
         plan = images.image_plan(rng)
         words = tables.lay_out(plan).words
         nodes = tree.nodes_of(read(words), 150)
@@ -742,8 +807,7 @@ def main():
     tally = Counter()
     example_count = check_examples()
     mistakes = check_mistakes()
-    for plan in good_plans(rng):
-        check_good(plan, tally)
+    check_good_tables(rng, tally)
     check_single_damages(rng, tally)
     check_cuts(rng, tally)
     check_double_damages(rng, tally)
@@ -752,7 +816,8 @@ def main():
     check_checker(rng, tally)
     check_lister(rng, tally)
     judged = sum(tally[f"missing {part}"] for part in (None, *range(1, 9)))
-    print(f"selfcheck good: {example_count} examples, {mistakes} mistakes noticed, {tally['good']} good tables, "
+    print(f"selfcheck good: {example_count} examples, {mistakes} mistakes noticed, {tally['good, kind 1']} good tables of kind 1, "
+          f"{tally['good, kind 6']} of kind 6, {tally['same of twins']} questions to twins, "
           f"damages by number 1: {tally[1]}, 2: {tally[2]}, 3: {tally[3]}, 4: {tally[4]}, "
           f"{tally['double']} double damages, {tally['round trips']} round trips, {tally['trees']} trees "
           f"({tally['ambiguous trees']} ambiguous), {tally['walked words']} walked words, {judged} trees judged twice "

@@ -1,14 +1,17 @@
 """Tables for the tests: good ones, damaged ones and random words.
 
 Everything is drawn from the random.Random that is handed in, so the same seed gives the same tables.
-A table is planned first (TablePlan) and then laid out as words; the places of its parts stay known, so that a
-damage can say by itself which number and place it must give. Nothing here uses the second reader.
+A table is planned first (TablePlan) and then laid out as words, of kind 1 or of kind 6; the places of its parts stay known, so
+that a damage can say by itself which number and place it must give. Nothing here uses the second reader.
 """
 
-from dataclasses import dataclass, field
+from dataclasses import dataclass, field, replace
+from functools import partial
 
 MOST_WORDS = 16384
+MOST_CYCLES = 65535
 ALL_BITS = 0xFFFFFFFF
+PLAIN, WITH_CYCLES = 1, 6       # the kinds of a first word
 
 
 @dataclass
@@ -19,6 +22,7 @@ class EntryPlan:
     value: int
     fields: list                                    # (lowest bit, width) in table order
     conditions: list = field(default_factory=list)  # (pattern, [pattern, ...]), a pattern is (mask, value)
+    cycles: int = 0                                 # laid out in a table of kind 6 only
 
 
 @dataclass
@@ -152,13 +156,27 @@ def full_entry(rng, width):
     return entry
 
 
-def longest_plan(rng):
-    """A good table of exactly 16,384 words: 1 + 72 x 227 + 13 x 3."""
-    entries = [full_entry(rng, 32) for _ in range(72)]
-    for _ in range(13):
-        entries.append(EntryPlan(rng.randrange(4096), 32, ALL_BITS, rng.getrandbits(32), []))
+def longest_plan(rng, kind=PLAIN):
+    """A good table of exactly 16,384 words: 1 + 72 x 227 + 13 x 3, or of kind 6: 1 + 71 x 228 + 45 x 4 + 3 x 5."""
+    smallest = 3 if kind == PLAIN else 4
+    full, left = divmod(MOST_WORDS - 1, 224 + smallest)
+    entries = [full_entry(rng, 32) for _ in range(full)]
+    for number in range(left // smallest):
+        # A word that is left over is a field.
+        free = 1 if number < left % smallest else 0
+        entries.append(EntryPlan(rng.randrange(4096), 32, ALL_BITS - free, rng.getrandbits(32) & ~free, [(0, 1)] * free))
     rng.shuffle(entries)
     return TablePlan(32, entries)
+
+
+def some_cycles(rng):
+    """Often the least or the most; some that would pass as a field of a narrow table."""
+    return rng.choice([0, 1, MOST_CYCLES, rng.getrandbits(8), rng.getrandbits(16), rng.randrange(8) << 8 | rng.randint(1, 4)])
+
+
+def with_cycles(rng, plan):
+    """The same plan with cycles in its entries."""
+    return TablePlan(plan.width, [replace(entry, cycles=some_cycles(rng)) for entry in plan.entries])
 
 
 # ---------------------------------------------------------------------------- overlap on purpose
@@ -396,7 +414,9 @@ class ConditionPlace:
 @dataclass
 class EntryPlace:
     head: int
+    cycles: int         # index of the cycles word; None in a table of kind 1
     fields: list        # indices of the kind 3 words
+    fields_end: int     # index after the last of them, or where the first would be
     conditions: list    # ConditionPlace
     end: int
 
@@ -408,8 +428,8 @@ class Laid:
     entries: list       # EntryPlace
 
 
-def first_word(count, width):
-    return 1 << 28 | count << 16 | width
+def first_word(count, width, kind=PLAIN):
+    return kind << 28 | count << 16 | width
 
 
 def entry_word(label, length, fields, conditions):
@@ -438,22 +458,37 @@ def lay_condition(words, condition):
     return ConditionPlace(head, places, len(words))
 
 
-def lay_entry(words, entry):
+def lay_entry(words, entry, kind):
     head = len(words)
     words += [entry_word(entry.label, entry.length, len(entry.fields), len(entry.conditions)), entry.mask, entry.value]
+    cycles = None
+    if kind == WITH_CYCLES:
+        cycles = len(words)
+        words.append(entry.cycles)
     fields = []
     for lowest, width in entry.fields:
         fields.append(len(words))
         words.append(field_word(lowest, width))
+    fields_end = len(words)
     conditions = [lay_condition(words, condition) for condition in entry.conditions]
-    return EntryPlace(head, fields, conditions, len(words))
+    return EntryPlace(head, cycles, fields, fields_end, conditions, len(words))
 
 
-def lay_out(plan):
+def lay_out(plan, kind=PLAIN):
     """The words of a plan, and where each of its parts stands."""
-    words = [first_word(len(plan.entries), plan.width)]
-    places = [lay_entry(words, entry) for entry in plan.entries]
+    words = [first_word(len(plan.entries), plan.width, kind)]
+    places = [lay_entry(words, entry, kind) for entry in plan.entries]
     return Laid(plan, words, places)
+
+
+def lay_out_both(rng, plan):
+    """The plan as a table of kind 1, and as one of kind 6 with cycles."""
+    return lay_out(plan), lay_out(with_cycles(rng, plan), WITH_CYCLES)
+
+
+def lay_longest(rng, kind):
+    plan = longest_plan(rng, kind)
+    return lay_out(with_cycles(rng, plan), WITH_CYCLES) if kind == WITH_CYCLES else lay_out(plan)
 
 
 # ---------------------------------------------------------------------------- damages
@@ -496,7 +531,7 @@ def first_word_damage(word):
 
 
 def head_damage(entry, index, word):
-    """A head word that is wrong by itself."""
+    """A head word, or a cycles word, that is wrong by itself."""
     return Damage(2, index, index, entry, {index: word})
 
 
@@ -542,7 +577,8 @@ def too_long(rng, laid):
 
 
 def first_kind(rng, laid):
-    return first_word_damage(other_kind(rng, laid.words[0]))
+    kind = rng.choice([kind for kind in range(16) if kind not in (PLAIN, WITH_CYCLES)])
+    return first_word_damage(with_bits(laid.words[0], 31, 28, kind))
 
 
 def first_spare(rng, laid):
@@ -678,7 +714,7 @@ def fields_up(rng, laid):
     if picked is None:
         return None
     number, _, place = picked
-    after = place.head + 3 + len(place.fields)
+    after = place.fields_end
     return Damage(2, after, after, number, {place.head: laid.words[place.head] + 0x10})
 
 
@@ -728,10 +764,16 @@ def unmatching_down(rng, laid):
 
 # --- masks and values
 
-def masks(laid):
-    """Every mask: (entry number, index). Its value is the next word."""
+def opcode_masks(laid):
+    """The mask of each opcode: (entry number, index). Its value is the next word."""
     for number, place in enumerate(laid.entries):
         yield number, place.head + 1
+
+
+def masks(laid):
+    """Every mask."""
+    yield from opcode_masks(laid)
+    for number, place in enumerate(laid.entries):
         for condition in place.conditions:
             yield number, condition.head + 1
             for index in condition.unmatching:
@@ -742,11 +784,11 @@ def random_bit(rng, word):
     return 1 << rng.choice([bit for bit in range(32) if word >> bit & 1])
 
 
-def mask_outside(rng, laid):
+def mask_outside(rng, laid, among=masks):
     """A mask bit outside the own bits; the value may have it or not."""
     def outside(number):
         return ALL_BITS & ~own_bits(laid.plan.width, laid.plan.entries[number].length)
-    fitting = [(number, index) for number, index in masks(laid) if outside(number)]
+    fitting = [(number, index) for number, index in among(laid) if outside(number)]
     if not fitting:
         return None
     number, index = rng.choice(fitting)
@@ -757,8 +799,8 @@ def mask_outside(rng, laid):
     return Damage(3, index, index + 1, number, edits)
 
 
-def value_outside(rng, laid):
-    fitting = [(number, index) for number, index in masks(laid) if laid.words[index] != ALL_BITS]
+def value_outside(rng, laid, among=masks):
+    fitting = [(number, index) for number, index in among(laid) if laid.words[index] != ALL_BITS]
     if not fitting:
         return None
     number, index = rng.choice(fitting)
@@ -822,7 +864,7 @@ def field_over_field(rng, laid):
 
 def cover_damage(number, place, edits):
     """Own bits not covered: the index of the entry, after its last field."""
-    last = place.head + 2 + len(place.fields)
+    last = place.fields_end - 1
     return Damage(4, place.head, last + 0.5, number, edits)
 
 
@@ -847,6 +889,56 @@ def cover_mask(rng, laid):
     return cover_damage(number, place, {place.head + 1: plan.mask & ~bit, place.head + 2: plan.value & ~bit})
 
 
+# --- cycles; None for a table of kind 1
+
+def too_many_cycles(rng):
+    """Most often the first number that is too large, and bits above sixteen."""
+    return rng.choice([MOST_CYCLES + 1, MOST_CYCLES + 1, ALL_BITS, spare_bit(rng, 16, 31) | rng.getrandbits(16)])
+
+
+def pick_cycles(rng, laid):
+    """A random entry that has a cycles word: its number and that word's index, or None."""
+    picked = pick_entry(rng, laid, lambda plan, place: place.cycles is not None)
+    return None if picked is None else (picked[0], picked[2].cycles)
+
+
+def cycles_over(rng, laid):
+    picked = pick_cycles(rng, laid)
+    return None if picked is None else head_damage(*picked, too_many_cycles(rng))
+
+
+def cycles_missing(rng, laid):
+    """The table ends before a cycles word."""
+    picked = pick_cycles(rng, laid)
+    return None if picked is None else Damage(2, picked[1], picked[1], CUT, cut=picked[1])
+
+
+def with_cycles_over(rng, laid, kinds):
+    """One of these damages, and in its entry cycles that are too many: the damage with both, and the index of the cycles."""
+    for kind in rng.sample(kinds, len(kinds)):
+        damage = kind(rng, laid)
+        index = None if damage is None else laid.entries[damage.entry].cycles
+        if index is not None:
+            return replace(damage, edits=damage.edits | {index: too_many_cycles(rng)}), index
+    return None
+
+
+def opcode_before_cycles(rng, laid):
+    """Too many cycles, and before them a wrong opcode, which is judged first."""
+    found = with_cycles_over(rng, laid, [partial(mask_outside, among=opcode_masks), partial(value_outside, among=opcode_masks)])
+    return None if found is None else found[0]
+
+
+def cycles_before_fields(rng, laid):
+    """Too many cycles, and after them a wrong field, or bits that nothing covers."""
+    found = with_cycles_over(rng, laid, [fields_down, field_empty, field_outside, field_over_mask, field_over_field,
+                                         cover_field, cover_mask])
+    if found is None:
+        return None
+    damage, index = found
+    return replace(damage, number=2, place=index, when=index)
+
+
 DAMAGES = [
     empty_table, too_long, first_kind, first_spare, width_zero, width_over, entries_over,
     cut_short, words_after, entries_up, entries_down,
@@ -855,6 +947,7 @@ DAMAGES = [
     fields_up, fields_down, conditions_up, conditions_down, unmatching_up, unmatching_down,
     mask_outside, value_outside,
     field_empty, field_outside, field_over_mask, field_over_field, cover_field, cover_mask,
+    cycles_over, cycles_missing, opcode_before_cycles, cycles_before_fields,
 ]
 
 # too_long tables are big; they are made a few times by name and not drawn at random.
@@ -869,6 +962,12 @@ def some_damage(rng, laid):
             return damage
 
 
+def some_damaged(rng, plan):
+    """The words of a plan with one damage; the table was of kind 1 or of kind 6."""
+    laid = rng.choice(lay_out_both(rng, plan))
+    return damaged(laid.words, some_damage(rng, laid))
+
+
 def every_cut(laid):
     """Each way to cut the table short."""
     for cut in range(1, len(laid.words)):
@@ -879,19 +978,21 @@ def first_of(one, two):
     """Which of two damages is reported, or None if they may disturb each other (then only comparing is possible)."""
     if one.entry == two.entry:
         return None
-    if one.when == two.when and CUT not in (one.entry, two.entry):
+    first, second = sorted((one, two), key=lambda damage: (damage.when, damage.entry != CUT))
+    # A cut takes away the word at its index, so it comes before a fault of that word. But if counts before it make that word one
+    # too many, nothing is missing without it.
+    if first.when == second.when and (first.entry != CUT or any(index < second.when for index in second.edits)):
         return None
-    # A cut takes away the word at its index, so it comes before a fault of that word.
-    return min(one, two, key=lambda damage: (damage.when, damage.entry != CUT))
+    return first
 
 
 # ---------------------------------------------------------------------------- changes without a known outcome
 
 def random_change(rng, words):
-    """One careless change: a bit flipped, a word changed, lost, doubled, put in or swapped, another width."""
+    """One careless change: a bit flipped, a word changed, lost, doubled, put in or swapped, another width, kind 6 for kind 1."""
     words = list(words)
     index = rng.randrange(len(words))
-    style = rng.randrange(8)
+    style = rng.randrange(9)
     if style <= 2:
         words[index] ^= 1 << rng.randrange(32)
     elif style == 3:
@@ -903,9 +1004,15 @@ def random_change(rng, words):
     elif style == 6:
         other = rng.randrange(len(words))
         words[index], words[other] = words[other], words[index]
-    else:
+    elif style == 7:
         words[0] = with_bits(words[0], 7, 0, rng.randint(0, 34))
+    else:
+        words[0] = with_bits(words[0], 31, 28, PLAIN if words[0] >> 28 == WITH_CYCLES else WITH_CYCLES)
     return words
+
+
+def some_first_word(rng):
+    return first_word(rng.randint(0, 3), rng.randint(1, 32), rng.choice([PLAIN, WITH_CYCLES]))
 
 
 def plausible_word(rng):
@@ -916,7 +1023,7 @@ def plausible_word(rng):
     if kind == 0:
         return rng.choice([0, 1, 2, 3, 0x80, rng.getrandbits(4)])
     if kind == 1:
-        return first_word(rng.randint(0, 3), rng.randint(1, 32))
+        return some_first_word(rng)
     if kind == 2:
         return entry_word(rng.randrange(4096), rng.randint(1, 9), rng.randint(0, 2), rng.randint(0, 2))
     if kind == 3:
@@ -930,7 +1037,7 @@ def random_words(rng):
     """Random words with plausible kinds, mostly after a good first word."""
     words = [plausible_word(rng) for _ in range(rng.randint(0, 20))]
     if words and rng.random() < 0.9:
-        words[0] = first_word(rng.randint(0, 3), rng.randint(1, 32))
+        words[0] = some_first_word(rng)
     return words
 
 
@@ -938,11 +1045,14 @@ def loose_words(rng):
     """Words in the right order of kinds for one or two narrow entries, with random contents: now and then good."""
     width = rng.randint(1, 3)
     count = rng.randint(1, 2)
-    words = [first_word(count, width)]
+    kind = rng.choice([PLAIN, WITH_CYCLES])
+    words = [first_word(count, width, kind)]
     for _ in range(count):
         fields = rng.randint(0, 2)
         conditions = rng.randint(0, 1)
         words += [entry_word(0, rng.randint(1, width), fields, conditions), rng.getrandbits(width), 0]
+        if kind == WITH_CYCLES:
+            words.append(rng.choice([some_cycles(rng), some_cycles(rng), some_cycles(rng), too_many_cycles(rng)]))
         words += [field_word(rng.randrange(width), rng.randint(1, 2)) for _ in range(fields)]
         for _ in range(conditions):
             words += [condition_word(1), rng.getrandbits(width), 0]

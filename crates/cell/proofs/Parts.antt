@@ -1,11 +1,11 @@
 -- A condition and an entry in a cell, by the tests in the order in which the code makes them. Assumes nothing.
-use mathlib.Core.Path.{_≡_}
+use mathlib.Core.Path.{_≡_, _∙_}
 use mathlib.Core.List.{List}
 use mathlib.Core.Bool.{Bool, true, false}
 use Prim.Native.Nat.{ℕ, _+_}
 use Rattle.words.specs.Tests.{_and_, _or_, anyOf, allOf}
 use Rattle.words.specs.Words.{word}
-use Rattle.table.specs.Table.{patternAt, unmatchingAt, unmatchingOf, conditionAt, conditionsAt, fieldsOf, conditionsOf, Condition, entryAt}
+use Rattle.table.specs.Table.{patternAt, unmatchingAt, unmatchingOf, conditionAt, conditionsAt, conditionsOf, conditionsPlace, Condition, entryAt}
 use Rattle.cell.specs.Cell.{Cell, implies, clashes, holds, fails, dead, live, sure}
 use Rattle.cell.specs.Decide.{statusOf}
 use Rattle.choice.specs.Status.{codeOf}
@@ -30,16 +30,16 @@ module _ (ws : List ℕ) (c : Cell) (p : ℕ) where
     unfolding fails _or_
     fails-rest e = rw (e, k, h)
 
--- ---- an entry; w is its head word, n and m the numbers in it, as the code has them, and its conditions stand from `first` on
+-- ---- an entry; w is its head word, n the number of its conditions, as the code has them; they stand from `first` on
 module _ (ws : List ℕ) (c : Cell) (p : ℕ) where
   pub clash-dead : clashes c (patternAt ws (p + 1)) ≡ true → codeOf (statusOf c (entryAt ws p)) ≡ 0
   unfolding statusOf dead _or_
   clash-dead e = rw e
 
-  module _ (w n m first : ℕ) (h : w ≡ word ws p) (k : n ≡ conditionsOf w) (l : m ≡ fieldsOf w) (f : first ≡ p + 3 + m) where
+  module _ (w n first : ℕ) (h : w ≡ word ws p) (k : n ≡ conditionsOf w) (f : conditionsAt ws n first ≡ conditionsAt ws n (conditionsPlace ws p)) where
     -- the conditions of the entry, and a search over them
     conditions-are : conditionsAt ws n first ≡ entryAt ws p .conditions
-    conditions-are = rw (f, k, l, h)
+    conditions-are = f ∙ rw (k, h)
 
     pub entry-any : (f : Condition → Bool) (r : Bool) → r ≡ anyOf f (conditionsAt ws n first) → r ≡ anyOf f (entryAt ws p .conditions)
     entry-any f r e = rw (← conditions-are) e

@@ -2,7 +2,7 @@
 use mathlib.Core.Path.{_≡_, refl, sym, ap, _∙_}
 use mathlib.Core.List.{List, [], _∷_}
 use mathlib.Core.Bool.{Bool, true, false}
-use Prim.Native.Nat.{ℕ, zero, suc, _+_, _-_, _*_, _≤_, _<_}
+use Prim.Native.Nat.{ℕ, zero, suc, _+_, _-_, _≤_, _<_}
 use native.Mathlib.Omega.{arith}
 use native.Mathlib.Numerals.{sub-one}
 use lib.Bits.{bitOr}
@@ -10,7 +10,7 @@ use Rattle.words.specs.Tests.{_and_, _or_, anyOf, allOf}
 use Rattle.words.specs.Words.{bit, word}
 use Rattle.words.proofs.Logic.{search-pass, search-found, search-none}
 use Rattle.words.proofs.Bits.{bit-or}
-use Rattle.table.specs.Table.{Pattern, Condition, patternAt, unmatchingAt, unmatchingOf, conditionAt, conditionEnd, conditionsAt}
+use Rattle.table.specs.Table.{Pattern, Condition, patternAt, unmatchingAt, conditionAt, conditionEnd, conditionsAt}
 
 or-assoc : (a b c : Bool) → (a or b) or c ≡ a or (b or c)
 unfolding _or_
@@ -98,7 +98,7 @@ module _ (ws : List ℕ) where
     pub pattern-gathered : (a n p : ℕ) → n ≤ 0 → bit a i or anyOf (λ q. bit (q .mask) i) (unmatchingAt ws n p) ≡ bit a i
     pattern-gathered a n p h = gather-end (λ q. bit (q .mask) i) pattern next (unmatchingAt ws) pattern-none pattern-more a i n p h
 
--- ---- conditions; m is the number of unmatching patterns of the one at hand, of its head word w, as the code has them
+-- ---- conditions; the code goes on at q to those that are left
 module _ (ws : List ℕ) where
   condition-none : (p : ℕ) → conditionsAt ws 0 p ≡ []
   unfolding conditionsAt
@@ -108,15 +108,18 @@ module _ (ws : List ℕ) where
   unfolding conditionsAt
   condition-more n p = refl
 
-  condition-end : (p m w : ℕ) → w ≡ word ws p → m ≡ unmatchingOf w → conditionEnd ws p ≡ p + (3 + 3 * m)
-  condition-end p m w e h = rw (h, e) (omega arith)
+  -- where none is left, any place will do
+  pub none-left : (n p q : ℕ) → n < 1 → conditionsAt ws n p ≡ conditionsAt ws n q
+  none-left zero p q h = condition-none p ∙ sym (condition-none q)
+  none-left (suc n) p q h = absurd (omega arith)
+
+  abbrev Goes : ℕ → ℕ → ℕ → Type 0
+  Goes n p q = conditionsAt ws (n - 1) q ≡ conditionsAt ws (n - 1) (conditionEnd ws p)
 
   module _ (f : Condition → Bool) where
-    pub any-condition-on : (n p m w : ℕ) → 0 < n → w ≡ word ws p → m ≡ unmatchingOf w → f (conditionAt ws p) ≡ false
-        → anyOf f (conditionsAt ws n p) ≡ anyOf f (conditionsAt ws (n - 1) (p + (3 + 3 * m)))
-    any-condition-on n p m w h g e t =
-        search-pass f (conditionAt ws) (conditionEnd ws) (conditionsAt ws) condition-none condition-more n p h t
-        ∙ ap (λ (q : ℕ). anyOf f (conditionsAt ws (n - 1) q)) (condition-end p m w g e)
+    pub any-condition-on : (n p q : ℕ) → 0 < n → Goes n p q → f (conditionAt ws p) ≡ false → anyOf f (conditionsAt ws n p) ≡ anyOf f (conditionsAt ws (n - 1) q)
+    any-condition-on n p q h g t =
+        search-pass f (conditionAt ws) (conditionEnd ws) (conditionsAt ws) condition-none condition-more n p h t ∙ ap (anyOf f) (sym g)
 
     pub any-condition-hit : (n p : ℕ) → 0 < n → f (conditionAt ws p) ≡ true → anyOf f (conditionsAt ws n p) ≡ true
     any-condition-hit = search-found f (conditionAt ws) (conditionEnd ws) (conditionsAt ws) condition-none condition-more
@@ -124,11 +127,8 @@ module _ (ws : List ℕ) where
     pub any-condition-end : (n p : ℕ) → n ≤ 0 → anyOf f (conditionsAt ws n p) ≡ false
     any-condition-end = any-end f (conditionAt ws) (conditionEnd ws) (conditionsAt ws) condition-none condition-more
 
-    pub all-condition-on : (n p m w : ℕ) → 0 < n → w ≡ word ws p → m ≡ unmatchingOf w → f (conditionAt ws p) ≡ true
-        → allOf f (conditionsAt ws n p) ≡ allOf f (conditionsAt ws (n - 1) (p + (3 + 3 * m)))
-    all-condition-on n p m w h g e t =
-        all-on f (conditionAt ws) (conditionEnd ws) (conditionsAt ws) condition-none condition-more n p h t
-        ∙ ap (λ (q : ℕ). allOf f (conditionsAt ws (n - 1) q)) (condition-end p m w g e)
+    pub all-condition-on : (n p q : ℕ) → 0 < n → Goes n p q → f (conditionAt ws p) ≡ true → allOf f (conditionsAt ws n p) ≡ allOf f (conditionsAt ws (n - 1) q)
+    all-condition-on n p q h g t = all-on f (conditionAt ws) (conditionEnd ws) (conditionsAt ws) condition-none condition-more n p h t ∙ ap (allOf f) (sym g)
 
     pub all-condition-miss : (n p : ℕ) → 0 < n → f (conditionAt ws p) ≡ false → allOf f (conditionsAt ws n p) ≡ false
     all-condition-miss = all-miss f (conditionAt ws) (conditionEnd ws) (conditionsAt ws) condition-none condition-more
@@ -138,10 +138,10 @@ module _ (ws : List ℕ) where
 
     -- found so far a, and the bits x of the condition at hand
     module _ (i : ℕ) where
-      pub condition-gather : (a x m w n p : ℕ) → 0 < n → w ≡ word ws p → m ≡ unmatchingOf w → bit x i ≡ f (conditionAt ws p)
-          → bit (bitOr a x) i or anyOf f (conditionsAt ws (n - 1) (p + (3 + 3 * m))) ≡ bit a i or anyOf f (conditionsAt ws n p)
-      condition-gather a x m w n p h g k e =
-          ap (λ (q : ℕ). bit (bitOr a x) i or anyOf f (conditionsAt ws (n - 1) q)) (sym (condition-end p m w g k))
+      pub condition-gather : (a x n p q : ℕ) → 0 < n → Goes n p q → bit x i ≡ f (conditionAt ws p)
+          → bit (bitOr a x) i or anyOf f (conditionsAt ws (n - 1) q) ≡ bit a i or anyOf f (conditionsAt ws n p)
+      condition-gather a x n p q h g e =
+          ap (λ (l : List Condition). bit (bitOr a x) i or anyOf f l) g
           ∙ gather-on f (conditionAt ws) (conditionEnd ws) (conditionsAt ws) condition-none condition-more a x i n p h e
 
       pub condition-gathered : (a n p : ℕ) → n ≤ 0 → bit a i or anyOf f (conditionsAt ws n p) ≡ bit a i

@@ -3,7 +3,7 @@ ghost use mathlib.Core.Path.{_≡_};
 ghost use Prim.Native.Nat.{_+_, _*_, _≤_, _<_, _^_};
 ghost use lib.ListN.{length};
 ghost use Rattle.words.specs.Tests.{anyOf, allOf};
-ghost use Rattle.table.specs.Table.{patternAt, unmatchingAt, conditionAt, conditionsAt, entryAt, unmatchingOf, fieldsOf};
+ghost use Rattle.table.specs.Table.{patternAt, unmatchingAt, conditionAt, conditionsAt, conditionEnd, conditionsPlace, entryAt, unmatchingOf};
 ghost use Rattle.cell.specs.Cell.{implies, clashes, holds as holdsIn, fails as failsIn};
 ghost use Rattle.choice.specs.Status.{codeOf, Stated};
 ghost use Rattle.choice.specs.Judged.{entryPlaced};
@@ -14,13 +14,6 @@ pub fn followers(head: u32) -> usize
     ensures { λ r. ⌜ (r ≡ unmatchingOf head) × (r ≤ 15) ⌝ }
 {
     words::part(head, 0, 4) as usize
-}
-
-// Bits 7 to 4 of an entry's head word.
-pub fn fields(head: u32) -> usize
-    ensures { λ r. ⌜ (r ≡ fieldsOf head) × (r ≤ 15) ⌝ }
-{
-    words::part(head, 4, 4) as usize
 }
 
 // Whether the cell implies the pattern at p.
@@ -112,6 +105,27 @@ pub fn fails(table: &[u32], p: usize, fixed: u32, bits: u32) -> bool
     )
 }
 
+// The place of the first of the n conditions of the entry at p. It is not looked up where there are none.
+pub fn conditions_from(table: &[u32], p: u32, n: usize) -> usize
+    ensures { λ r. ⌜ (conditionsAt (now (table .entry)) n r ≡ conditionsAt (now (table .entry)) n (conditionsPlace (now (table .entry)) p)) × (r ≤ p + 19) ⌝ }
+{
+    if n < 1 {
+        return 0;
+    }
+    table::conditions_at(table, p)
+}
+
+// The place after the condition at p, from which n more stand. It is not looked up where there are none.
+pub fn conditions_after(table: &[u32], p: usize, n: usize) -> usize
+    requires { ⌜ p < 2 ^ 62 ⌝ }
+    ensures { λ r. ⌜ (conditionsAt (now (table .entry)) n r ≡ conditionsAt (now (table .entry)) n (conditionEnd (now (table .entry)) p)) × (r ≤ p + 48) ⌝ }
+{
+    if n < 1 {
+        return p;
+    }
+    p + 3 + 3 * followers(words::word_at(table, p))
+}
+
 // Whether one of the n conditions from p on holds in the cell.
 fn any_holds(table: &[u32], n: usize, p: usize, fixed: u32, bits: u32) -> bool
     requires { ⌜ p + 48 * n < 2 ^ 62 ⌝ }
@@ -124,7 +138,7 @@ fn any_holds(table: &[u32], n: usize, p: usize, fixed: u32, bits: u32) -> bool
             return true;
         }
         left -= 1;
-        at += 3 + 3 * followers(words::word_at(table, at));
+        at = conditions_after(table, at, left);
     }
     false
 }
@@ -141,7 +155,7 @@ fn all_fail(table: &[u32], n: usize, p: usize, fixed: u32, bits: u32) -> bool
             return false;
         }
         left -= 1;
-        at += 3 + 3 * followers(words::word_at(table, at));
+        at = conditions_after(table, at, left);
     }
     true
 }
@@ -154,9 +168,8 @@ fn status_at(table: &[u32], p: u32, fixed: u32, bits: u32) -> u8
     if is_clash(table, at + 1, fixed, bits) {
         return choice::DEAD;
     }
-    let head = words::word_at(table, at);
-    let n = followers(head);
-    let first = at + 3 + fields(head);
+    let n = followers(words::word_at(table, at));
+    let first = conditions_from(table, p, n);
     if any_holds(table, n, first, fixed, bits) {
         return choice::DEAD;
     }

@@ -152,7 +152,7 @@ fn open_bits(table: &[u32], n: usize, p: usize, fixed: u32, bits: u32) -> u32
     while 0 < left {
         found = found | open_condition_bits(table, at, fixed, bits);
         left -= 1;
-        at += 3 + 3 * standing::followers(words::word_at(table, at));
+        at = standing::conditions_after(table, at, left);
     }
     found
 }
@@ -164,15 +164,9 @@ fn entry_bits(table: &[u32], p: u32, s: u8, fixed: u32, bits: u32) -> u32
     if s != choice::OPEN {
         return 0;
     }
-    let at = p as usize;
-    let head = words::word_at(table, at);
-    open_bits(
-        table,
-        standing::followers(head),
-        at + 3 + standing::fields(head),
-        fixed,
-        bits,
-    )
+    let n = standing::followers(words::word_at(table, p as usize));
+    let first = standing::conditions_from(table, p, n);
+    open_bits(table, n, first, fixed, bits)
 }
 
 // The same for all entries.

@@ -18,7 +18,7 @@ use Rattle.table.specs.Table.{Entry, Table, sizeOf, entriesAt, entryNumber, tab
 use Rattle.table.specs.Check.{fine, tableCheck, readTable}
 use Rattle.table.specs.Ready.{Ready}
 use Rattle.table.proofs.Laws.{length-entries}
-use Rattle.table.proofs.Views.{ready-at}
+use Rattle.table.proofs.Views.{ready-at, read-is}
 use Rattle.flat.specs.Walk.{walkOf, maskOrZero}
 use Rattle.checker.specs.Checker.{accepts, checkOf, said}
 use Rattle.checker.specs.declared.Checked.{Checked}
@@ -162,9 +162,6 @@ chain-passed (refused n p x) tree image es e = absurd (not-refused (sym e))
 
 -- ---- what admit answers
 
-read-as : (ws : List ℕ) → tableCheck ws ≡ fine → (t : Table) → readTable ws ≡ result t → tableOf ws ≡ t
-read-as ws good t e = let q : result (tableOf ws) ≡ result t = rw good at e in cc
-
 module _ (ws tree image places : List ℕ) where
   pub admits-faulty : (n p : ℕ) → readTable ws ≡ faulty n p → Admits ws tree image (record { refusal = refusal.Refused n p; places = places })
   unfolding admitted
@@ -177,7 +174,7 @@ module _ (ws tree image places : List ℕ) where
         answer = e;
         ready =
             λ k. let c = chain-passed (readTable ws) tree image (tableOf ws .entries) (sym e ∙ ap (λ (x : Refusal). saidRefusal x (tableOf ws .entries)) k) in
-            let q : c .0 ≡ tableOf ws = sym (read-as ws (r .good) (c .0) (c .1)) in
+            let q : c .0 ≡ tableOf ws = sym (read-is ws (c .0) (c .1) .1) in
             admits-all ws places width count r tree image (rw q at (c .3)) (c .4) (rw q at (c .5));
       }
 

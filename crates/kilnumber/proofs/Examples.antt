@@ -9,7 +9,7 @@ use Rattle.flat.specs.Nodes.{headerRest, headerOf, testNode, namesNode, nothing
 use Rattle.flat.specs.Walk.{path, maskOf, enters, walkOf, maskOrZero}
 use Rattle.walker.specs.Walked.{walkBytes}
 use Rattle.words.specs.Outcome.{result, faulty, refused}
-use Rattle.kilnumber.specs.Packed.{packed, packedCheck, packedMeasure}
+use Rattle.kilnumber.specs.Packed.{packed, packedNumber, packedCheck, packedMeasure}
 
 -- what the call answers, with every definition open
 unfoldable answered : List ℕ → ℕ → ℕ
@@ -67,3 +67,10 @@ large-is = refl
 
 clash-is : packedMeasure (refused 6 0 0x80000001) ≡ 0x680000001
 clash-is = refl
+
+-- an entry's cycles: 65,535; no such entry (11)
+cost-is : packedNumber (result 65535) ≡ 0xffff
+cost-is = refl
+
+no-entry-is : packedNumber (refused 11 0 0) ≡ 0xb00000000
+no-entry-is = refl

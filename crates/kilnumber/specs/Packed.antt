@@ -1,4 +1,4 @@
--- The answers of a walk, of a check, of sizing and of a listing in 64 bits, for C ('Written form').
+-- The answers of a walk, of a check, of sizing, of a listing and of cycles in 64 bits, for C ('Written form').
 use Prim.Native.Nat.{ℕ, _+_, _*_, _^_}
 use mathlib.Core.Path.{_≡_}
 use mathlib.Core.List.{List}
@@ -21,11 +21,11 @@ packed (result a) = named (a .entry) + a .count * 2 ^ 16
 packed (faulty number place) = number * 2 ^ 32 + place * 2 ^ 48
 packed (refused number place w) = number * 2 ^ 32 + place * 2 ^ 48
 
--- a listing's, which is ours: the number of items, or the place, in 31–0; the number in 39–32 (0 if none)
-abbrev pub packedItems : Outcome ℕ → ℕ
-packedItems (result n) = n
-packedItems (faulty number place) = number * 2 ^ 32 + place
-packedItems (refused number place w) = number * 2 ^ 32 + place
+-- a listing's and an entry's cycles, which are ours: the number of items, the cycles, or the place, in 31–0; the number in 39–32 (0 if none)
+abbrev pub packedNumber : Outcome ℕ → ℕ
+packedNumber (result n) = n
+packedNumber (faulty number place) = number * 2 ^ 32 + place
+packedNumber (refused number place w) = number * 2 ^ 32 + place
 
 -- a check's, laid out as a listing's: 0 for yes
 abbrev pub packedCheck : Outcome Unit → ℕ
@@ -42,5 +42,5 @@ packedMeasure (refused number place w) = number * 2 ^ 32 + place + w
 
 -- listing for C answers what the definition says, and the whole buffer is as the definition says
 pub record ListsPacked (ws tree image before after : List ℕ) (r : ℕ) : Type 0 where
-  pub answer : r ≡ packedItems (listOf (readTable ws) tree image (length before))
+  pub answer : r ≡ packedNumber (listOf (readTable ws) tree image (length before))
   pub buffer : after ≡ bufferOf (readTable ws) tree image before

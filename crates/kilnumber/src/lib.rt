@@ -1,6 +1,7 @@
-// The C face: a walk of a tree that is given as bytes, the size of a table's tree, the check of a tree against its table, and the
-// listing of an image; each answer in 64 bits. include/kilnumber.h is its header.
+// The C face: a walk of a tree that is given as bytes, the size of a table's tree, the check of a tree against its table, the listing
+// of an image, and the cycles of an entry; each answer in 64 bits. include/kilnumber.h is its header.
 use checker::Checked;
+use cost::Costed;
 use image::Listed;
 use maker::Measured;
 use walker::Walked;
@@ -13,7 +14,8 @@ ghost use Rattle.table.specs.Check.{readTable};
 ghost use Rattle.tree.specs.Generate.{measureOf};
 ghost use Rattle.maker.specs.Answers.{saidMeasure};
 ghost use Rattle.checker.specs.Checker.{checkOf, said as saidCheck};
-ghost use Rattle.kilnumber.specs.Packed.{packed, packedItems, packedCheck, packedMeasure, ListsPacked};
+ghost use Rattle.cost.specs.Cost.{cyclesOf, said as saidCycles};
+ghost use Rattle.kilnumber.specs.Packed.{packed, packedNumber, packedCheck, packedMeasure, ListsPacked};
 
 // An answer in 64 bits.
 fn pack(answer: Walked) -> u64
@@ -48,7 +50,7 @@ pub extern "C" fn kilnumber_mask(tree: &[u8], word: u32) -> u32
 
 // A listing's answer in 64 bits.
 fn pack_items(answer: Listed) -> u64
-    ensures { λ r. ⌜ r ≡ packedItems (saidList answer) ⌝ }
+    ensures { λ r. ⌜ r ≡ packedNumber (saidList answer) ⌝ }
 {
     match answer {
         Listed::Items(count) => count as u64,
@@ -108,4 +110,24 @@ pub extern "C" fn kilnumber_measure(table: &[u32]) -> u64
 {
     let answer = maker::measure(table);
     pack_measure(answer)
+}
+
+// An entry's cycles in 64 bits.
+fn pack_cycles(answer: Costed) -> u64
+    ensures { λ r. ⌜ r ≡ packedNumber (saidCycles answer) ⌝ }
+{
+    match answer {
+        Costed::Cycles(count) => count as u64,
+        Costed::NoEntry => 11 * 4294967296,
+        Costed::Refused(number, place) => (number as u64) * 4294967296 + (place as u64),
+    }
+}
+
+// What a battery account calls, for each entry of its table: what one instruction of it costs.
+#[no_mangle]
+pub extern "C" fn kilnumber_cycles(table: &[u32], entry: u32) -> u64
+    ensures { λ r. ⌜ r ≡ packedNumber (cyclesOf (readTable (now (table .entry))) entry) ⌝ }
+{
+    let answer = cost::cycles(table, entry);
+    pack_cycles(answer)
 }

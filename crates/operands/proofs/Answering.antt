@@ -14,8 +14,8 @@ use Rattle.words.proofs.Logic.{cases}
 use Rattle.words.specs.Outcome.{Outcome, result, faulty, refused}
 use Rattle.table.specs.Table.{Entry, Table, entryNumber, tableOf, entryAt, entryPlace, fieldsAt, fieldsPlace, fieldsOf, countOf, widthOf}
 use Rattle.table.specs.Check.{Check, fine, fault, tableCheck, entryCheck, reading, readTable}
-use Rattle.table.proofs.Laws.{then-l, then-r, length-entries, first-short}
-use Rattle.table.proofs.Views.{entry-check, entry-at, entry-opcode, entry-few-fields}
+use Rattle.table.proofs.Laws.{then-r, length-entries}
+use Rattle.table.proofs.Views.{entry-check, entry-at, entry-few-fields}
 use Rattle.choice.specs.Rule.{Choice, names, nothing, ambiguous}
 use Rattle.selection.specs.Selection.{select}
 use Rattle.selection.specs.Lookup.{lookedUp, lookOf}
@@ -108,7 +108,6 @@ module _ (ws : List ℕ) (w : ℕ) (out : List ℕ) (h : 8 ≤ length out) where
 -- ---- an entry of a table without fault, by its place
 
 pub record Stands (ws : List ℕ) (e place : ℕ) : Type 0 where
-  pub near : place + 3 ≤ 16384
   pub few : fieldsOf (word ws place) ≤ 8
   pub is : entryNumber (tableOf ws .entries) e ≡ entryAt ws place
   pub check : entryCheck ws (widthOf (word ws 0)) place ≡ fine
@@ -118,7 +117,6 @@ unfolding tableCheck
 stands ws e place t h q =
     let c : entryCheck ws (widthOf (word ws 0)) place ≡ fine = rw q (entry-check ws (widthOf (word ws 0)) e (countOf (word ws 0)) (then-r _ _ t) h) in
     record {
-      near = omega (arith, entry-opcode ws _ place c, first-short ws (then-l _ _ t));
       few = entry-few-fields ws _ place c;
       is = rw q (entry-at ws (widthOf (word ws 0)) e (countOf (word ws 0)) _ h);
       check = c;
@@ -161,8 +159,8 @@ module _ (ws : List ℕ) (w e place : ℕ) (l : result (some e) ≡ lookOf (read
   decode-entry before after n c h a =
       let x = look-entry (tableCheck ws) (tableOf ws) w e l in
       let s = entry-stands in
-      let vs = valuesIn (fieldsAt ws n (place + 3)) w in
-      let k : length vs ≡ n = length-values (fieldsAt ws n (place + 3)) w ∙ length-fields ws n (place + 3) in
+      let vs = valuesIn (fieldsAt ws n (fieldsPlace ws place)) w in
+      let k : length vs ≡ n = length-values (fieldsAt ws n (fieldsPlace ws place)) w ∙ length-fields ws n (fieldsPlace ws place) in
       let f : valuesIn (entryNumber (tableOf ws .entries) e .fields) w ≡ vs = ap (λ (z : Entry). valuesIn (z .fields) w) (s .is) ∙ rw c in
       let d : decodeOf (readTable ws) w (length before) ≡ result (entry-values e vs)
       = rw (x .0) (decodes (tableOf ws) w (length before) e vs h (x .1) (x .2) f) in

@@ -11,7 +11,7 @@ use borrow.Author.Tests.{eq-eqb, ne-eqb, lt-ltb, le-ltb}
 use Rattle.words.specs.Tests.{_and_}
 use Rattle.words.specs.Words.{word}
 use Rattle.words.specs.Outcome.{Outcome, result, faulty, refused}
-use Rattle.table.specs.Table.{Entry, Table, Field, entryNumber, tableOf, fieldsAt, fieldsOf, sizeOf, countOf, widthOf}
+use Rattle.table.specs.Table.{Entry, Table, Field, entryNumber, tableOf, fieldsAt, fieldsPlace, fieldsOf, sizeOf, countOf, widthOf}
 use Rattle.table.specs.Check.{fine, tableCheck, fieldsCheck, readTable}
 use Rattle.table.proofs.Laws.{then-l, then-r, length-entries, first-width, field-some, field-below}
 use Rattle.table.proofs.Views.{entry-field-check}
@@ -85,14 +85,14 @@ module _ (ws : List ℕ) (t : tableCheck ws ≡ fine) (e : ℕ) (vs : List ℕ) 
   encode-none h = rw (t, length-entries ws (countOf (word ws 0)) 1, le-ltb e (countOf (word ws 0)) h)
 
   module _ (h : e < countOf (word ws 0)) (p : ℕ) (s : Stands ws e p) where
-    fields-are : entryNumber (tableOf ws .entries) e .fields ≡ fieldsAt ws (fieldsOf (word ws p)) (p + 3)
+    fields-are : entryNumber (tableOf ws .entries) e .fields ≡ fieldsAt ws (fieldsOf (word ws p)) (fieldsPlace ws p)
     fields-are = ap (λ (x : Entry). x .fields) (s .is)
 
     value-is : entryNumber (tableOf ws .entries) e .opcode .value ≡ word ws (p + 2)
     value-is = ap (λ (x : Entry). x .opcode .value) (s .is) ∙ ap (word ws) (let g : p + 1 + 1 ≡ p + 2 = omega arith in g)
 
     count-is : length (entryNumber (tableOf ws .entries) e .fields) ≡ fieldsOf (word ws p)
-    count-is = ap length fields-are ∙ length-fields ws (fieldsOf (word ws p)) (p + 3)
+    count-is = ap length fields-are ∙ length-fields ws (fieldsOf (word ws p)) (fieldsPlace ws p)
 
     pub encode-count : (length vs ≡ fieldsOf (word ws p) → ⊥) → refused 11 0 0 ≡ encodeOf (readTable ws) e vs
     unfolding encodeOf _and_
@@ -106,13 +106,13 @@ module _ (ws : List ℕ) (t : tableCheck ws ≡ fine) (e : ℕ) (vs : List ℕ) 
         own-lt _ _ _ (g .short) (placed-taken _ _ _ 0 (entryNumber (tableOf ws .entries) e .fields) vs (g .cover) (g .value-in) (l ∙ sym count-is) m .inside)
 
     pub encode-made : (a : Outcome ℕ) → length vs ≡ fieldsOf (word ws p)
-        → a ≡ madeFor (readTable ws) e (makes 0 (word ws (p + 2)) (fieldsAt ws (length vs) (p + 3)) vs) → a ≡ encodeOf (readTable ws) e vs
+        → a ≡ madeFor (readTable ws) e (makes 0 (word ws (p + 2)) (fieldsAt ws (length vs) (fieldsPlace ws p)) vs) → a ≡ encodeOf (readTable ws) e vs
     unfolding encodeOf _and_ makes
     encode-made a l q =
         let es = tableOf ws .entries in
         let k : eqb (length vs) (length (entryNumber es e .fields)) ≡ true = eq-eqb _ _ (l ∙ sym count-is) in
-        let y : entryNumber es e .fields ≡ fieldsAt ws (length vs) (p + 3) = fields-are ∙ ap (λ (x : ℕ). fieldsAt ws x (p + 3)) (sym l) in
-        let m : madeFor (readTable ws) e (makes 0 (word ws (p + 2)) (fieldsAt ws (length vs) (p + 3)) vs) ≡ encodedFrom es e vs (misfit 0 (entryNumber es e .fields) vs)
+        let y : entryNumber es e .fields ≡ fieldsAt ws (length vs) (fieldsPlace ws p) = fields-are ∙ ap (λ (x : ℕ). fieldsAt ws x (fieldsPlace ws p)) (sym l) in
+        let m : madeFor (readTable ws) e (makes 0 (word ws (p + 2)) (fieldsAt ws (length vs) (fieldsPlace ws p)) vs) ≡ encodedFrom es e vs (misfit 0 (entryNumber es e .fields) vs)
         = rw (t, ← value-is, ← y) (made-is (tableOf ws) e vs (misfit 0 (entryNumber es e .fields) vs) (λ z. made-small l z)) in
         q ∙ m ∙ sym (encode-in k)
       where
@@ -129,7 +129,7 @@ in-word ws e width size used (suc n) p h t =
     let b = field-below ws width size used p (then-l _ _ t) in
     (omega arith, omega arith, in-word ws e width size _ n (p + 1) h (then-r _ _ t))
 
-pub entry-in-word : (ws : List ℕ) (e p n : ℕ) → tableCheck ws ≡ fine → Stands ws e p → n ≡ fieldsOf (word ws p) → InWord (fieldsAt ws n (p + 3))
+pub entry-in-word : (ws : List ℕ) (e p n : ℕ) → tableCheck ws ≡ fine → Stands ws e p → n ≡ fieldsOf (word ws p) → InWord (fieldsAt ws n (fieldsPlace ws p))
 unfolding tableCheck
 entry-in-word ws e p n t s q =
-    rw q (in-word ws p (widthOf (word ws 0)) (sizeOf (word ws p)) (word ws (p + 1)) _ (p + 3) (first-width ws (then-l _ _ t)) (entry-field-check ws _ p (s .check)))
+    rw q (in-word ws p (widthOf (word ws 0)) (sizeOf (word ws p)) (word ws (p + 1)) _ (fieldsPlace ws p) (first-width ws (then-l _ _ t)) (entry-field-check ws _ p (s .check)))

@@ -16,16 +16,16 @@ use Rattle.words.proofs.Bits.{includes-true}
 use Rattle.words.proofs.Parts.{part-lt, run-lt}
 use Rattle.words.proofs.Logic.{cases, and-l, and-r, and-i, first-some}
 use Rattle.words.specs.Words.{word, part}
-use Rattle.table.specs.Table.{Entry, Table, Field, entryNumber, tableOf, ownBits, entryAt, countOf, widthOf, sizeOf, fieldsOf}
+use Rattle.table.specs.Table.{Entry, Table, Field, entryNumber, tableOf, ownBits, entryAt, countOf, widthOf, sizeOf, fieldsOf, fieldsPlace}
 use Rattle.words.specs.Outcome.{result}
 use Rattle.table.specs.Check.{Check, fine, fault, tableCheck, entryCheck, patternCheck, reading, readTable}
 use Rattle.table.proofs.Laws.{then-l, then-r, need-true, head-below, length-entries}
-use Rattle.table.proofs.Views.{entry-check, entry-at}
+use Rattle.table.proofs.Views.{entry-check, entry-at, entry-field-check}
 use Rattle.choice.proofs.Judging.{choice-names}
 use Rattle.selection.specs.Lookup.{lookOf}
-use Rattle.choice.specs.Rule.{Choice, names, nothing, ambiguous, choiceOf, judge, beats, matches, judgeAt}
+use Rattle.choice.specs.Rule.{Choice, names, nothing, ambiguous, judge, beats, matches, judgeAt}
 use Rattle.selection.specs.Selection.{select, claims}
-use Rattle.operands.specs.Fields.{valueIn, valuesIn, placed, misfit}
+use Rattle.operands.specs.Fields.{valuesIn, placed, misfit}
 use Rattle.operands.specs.Calls.{Decoded, entry-values, decodedAs, decodeOf, selects, encodedAs, encodedFrom, encodeOf}
 use Rattle.operands.proofs.Cover.{Covered, covered, and-run, taken-placed, Made, placed-taken}
 
@@ -42,7 +42,7 @@ entry-good ws width p e =
     record {
       short = head-below ws width p (then-l _ _ e);
       value-in = and-comm (word ws (p + 1 + 1)) (word ws (p + 1)) ∙ includes-true _ _ (need-true _ _ _ (then-r _ _ (then-r _ _ (then-l _ _ t))));
-      cover = covered ws p width (sizeOf (word ws p)) (word ws (p + 1)) (fieldsOf (word ws p)) (p + 3) (then-l _ _ (then-r _ _ t));
+      cover = covered ws p width (sizeOf (word ws p)) (word ws (p + 1)) (fieldsOf (word ws p)) (fieldsPlace ws p) (entry-field-check ws width p e);
     }
 
 unfoldable pub GoodTable : Table → Type 0

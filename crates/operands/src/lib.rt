@@ -8,7 +8,7 @@ ghost use Prim.Native.Nat.{ℕ, _+_, _≤_, _<_, _^_};
 ghost use lib.ListN.{length, getD};
 ghost use lib.Seq.{sets};
 ghost use Rattle.words.specs.Outcome.{causeOf};
-ghost use Rattle.table.specs.Table.{fieldsAt};
+ghost use Rattle.table.specs.Table.{fieldsAt, fieldsPlace};
 ghost use Rattle.table.specs.Check.{readTable};
 ghost use Rattle.selection.specs.Lookup.{lookOf};
 ghost use Rattle.operands.specs.Fields.{valuesIn};
@@ -88,9 +88,8 @@ pub fn decode(ws: &[u32], word: u32, out: &mut [u32]) -> Decoding
         Selected::Ambiguous(w) => Decoding::Ambiguous(w),
         Selected::Nothing => Decoding::Nothing,
         Selected::Entry(e) => {
-            let head = place as usize;
-            let n = words::part(words::word_at(ws, head), 4, 4);
-            take_out(ws, head + 3, n, word, out);
+            let n = words::part(words::word_at(ws, place as usize), 4, 4);
+            take_out(ws, table::fields_at(ws, place), n, word, out);
             Decoding::Entry(e, n)
         }
     }
@@ -167,11 +166,12 @@ fn confirm(ws: &[u32], entry: u32, w: u32) -> Encoding
 }
 
 // The word of an entry, whose head stands at p, with these values, as many as it has fields.
-fn make(ws: &[u32], entry: u32, p: usize, values: &[u32]) -> Encoding
-    requires { ⌜ (p < 2 ^ 32) × (length (now values) ≤ 8) × InWord (fieldsAt (now ws) (length (now values)) (p + 3)) ⌝ }
-    ensures { λ r. ⌜ saidEncode r ≡ madeFor (readTable (now (ws .entry))) entry (makes 0 (getD (now (ws .entry)) (p + 2) 0) (fieldsAt (now (ws .entry)) (length (now (values .entry))) (p + 3)) (now (values .entry))) ⌝ }
+fn make(ws: &[u32], entry: u32, p: u32, values: &[u32]) -> Encoding
+    requires { ⌜ (length (now values) ≤ 8) × InWord (fieldsAt (now ws) (length (now values)) (fieldsPlace (now ws) p)) ⌝ }
+    ensures { λ r. ⌜ saidEncode r ≡ madeFor (readTable (now (ws .entry))) entry (makes 0 (getD (now (ws .entry)) (p + 2) 0) (fieldsAt (now (ws .entry)) (length (now (values .entry))) (fieldsPlace (now (ws .entry)) p)) (now (values .entry))) ⌝ }
 {
-    match put_in(ws, p + 3, words::word_at(ws, p + 2), values) {
+    let opcode = words::word_at(ws, p as usize + 2);
+    match put_in(ws, table::fields_at(ws, p), opcode, values) {
         Making::Misfit(k) => Encoding::Misfit(k),
         Making::Word(w) => confirm(ws, entry, w),
     }
@@ -191,8 +191,8 @@ pub fn encode(ws: &[u32], entry: u32, values: &[u32]) -> Encoding
                 return Encoding::NoEntry;
             }
             let e = entry as usize;
-            let p = places[e] as usize;
-            let n = words::part(words::word_at(ws, p), 4, 4) as usize;
+            let p = places[e];
+            let n = words::part(words::word_at(ws, p as usize), 4, 4) as usize;
             if values.len() != n {
                 return Encoding::NoEntry;
             }

@@ -2,6 +2,7 @@
 // it. The libraries decide what an answer is and how a number is written. The functions here are
 // proved safe; what they print is tested.
 use checker::Checked;
+use cost::Costed;
 use image::HalfwordAddress;
 use image::Listed;
 use image::Stepped;
@@ -24,7 +25,7 @@ const MOST_BYTES: usize = 1048576;
 const MOST_WORDS: usize = 262144;
 
 // Requests are numbered from 1.
-const LAST_NUMBER: u32 = 12;
+const LAST_NUMBER: u32 = 13;
 
 const MOST_PARTS: u32 = 8;
 
@@ -376,6 +377,16 @@ fn put_measure(page: &mut [u8], at: usize, ws: &[u32], parts: Parts) -> usize {
     }
 }
 
+// Request 13.
+fn put_cycles(page: &mut [u8], at: usize, ws: &[u32], parts: Parts) -> usize {
+    let answer = cost::cycles(words_in(ws, parts[0]), number_in(ws, parts[1]));
+    let next = put_cause(page, at, answer.cause());
+    match answer {
+        Costed::Cycles(count) => put_number(page, next, count),
+        _ => next,
+    }
+}
+
 // What follows a request's number on its line.
 fn put_answer(
     page: &mut [u8],
@@ -400,6 +411,7 @@ fn put_answer(
         10 => put_walk(page, at, ws, parts),
         11 => put_mask(page, at, bytes, ws, parts),
         12 => put_measure(page, at, ws, parts),
+        13 => put_cycles(page, at, ws, parts),
         _ => at,
     }
 }

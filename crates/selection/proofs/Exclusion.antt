@@ -7,7 +7,7 @@ use native.Mathlib.Omega.{arith}
 use Rattle.words.specs.Tests.{_and_, anyOf}
 use Rattle.words.proofs.Logic.{search-pass, search-found, search-none}
 use Rattle.words.specs.Words.{word}
-use Rattle.table.specs.Table.{unmatchingOf, fieldsOf, conditionsOf, patternAt, unmatchingAt, conditionAt, conditionEnd, conditionsAt, entryAt}
+use Rattle.table.specs.Table.{unmatchingOf, conditionsPlace, conditionsOf, patternAt, unmatchingAt, conditionAt, conditionEnd, conditionsAt, entryAt}
 use Rattle.choice.specs.Rule.{matches}
 use Rattle.selection.specs.Selection.{satisfied, claims}
 
@@ -60,12 +60,12 @@ module _ (ws : List ℕ) (w : ℕ) where
   unfolding satisfied _and_
   fails-matching p e = rw e
 
-  -- an entry claims, or not; n and f are the counts as the code has them
+  -- an entry claims, or not; n is the count and f the place of its conditions as the code has them
   pub claims-not : (p : ℕ) → matches w (patternAt ws (p + 1)) ≡ false → false ≡ claims w (entryAt ws p)
   unfolding claims _and_
   claims-not p e = rw e
 
-  pub claims-by : (p n f : ℕ) (r : Bool) → matches w (patternAt ws (p + 1)) ≡ true → n ≡ conditionsOf (word ws p) → f ≡ fieldsOf (word ws p)
-      → r ≡ anyOf (satisfied w) (conditionsAt ws n (p + 3 + f)) → not r ≡ claims w (entryAt ws p)
+  pub claims-by : (p n f : ℕ) (r : Bool) → matches w (patternAt ws (p + 1)) ≡ true → n ≡ conditionsOf (word ws p) → f ≡ conditionsPlace ws p
+      → r ≡ anyOf (satisfied w) (conditionsAt ws n f) → not r ≡ claims w (entryAt ws p)
   unfolding claims _and_
   claims-by p n f r e c d t = rw (e, ← c, ← d) (ap not t)

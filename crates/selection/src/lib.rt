@@ -72,9 +72,8 @@ fn claims(ws: &[u32], p: u32, word: u32) -> bool
     if !matches(ws, at + 1, word) {
         return false;
     }
-    let head = words::word_at(ws, at);
-    let first = at + 3 + words::part(head, 4, 4) as usize;
-    !excluded(ws, words::part(head, 0, 4), first, word)
+    let n = words::part(words::word_at(ws, at), 0, 4);
+    !excluded(ws, n, table::conditions_at(ws, p), word)
 }
 
 // What the entry at p is for a word: sure if it claims the word, else dead.

@@ -7,8 +7,9 @@ use native.Mathlib.Omega.{arith}
 use lib.ListN.{length}
 use borrow.Author.Tests.{leb-false}
 use Rattle.words.specs.Outcome.{faulty}
-use Rattle.table.specs.Table.{Table, conditionEnd, entryEnd, tableOf}
-use Rattle.table.specs.Check.{Check, fine, fault, _then_, need, has, patternCheck, unmatchingCheck, unmatchingsCheck, conditionCheck, conditionsCheck, fieldRule, fieldCheck, fieldsCheck, headCheck, entryCheck, entriesCheck, firstCheck, tableCheck, tableFault, reading, readTable}
+use Rattle.words.proofs.Logic.{cases}
+use Rattle.table.specs.Table.{Table, conditionEnd, hasCycles, fieldsPlace, entryEnd, tableOf}
+use Rattle.table.specs.Check.{Check, fine, fault, _then_, need, has, patternCheck, unmatchingCheck, unmatchingsCheck, conditionCheck, conditionsCheck, fieldRule, fieldCheck, fieldsCheck, headCheck, cyclesCheck, entryCheck, entriesCheck, firstCheck, tableCheck, tableFault, reading, readTable}
 use Rattle.table.proofs.Laws.{has-fits, head-fits}
 
 -- no fault, or one of 1 to 4 whose place is at most n
@@ -82,11 +83,16 @@ module _ (ws : List ℕ) where
         here p 1 _ (λ h. let l : p ≤ length ws = omega arith in
         on _ _ _ _ _ refl l (on _ _ _ _ _ refl l (on _ _ _ _ _ refl l (on _ _ _ _ _ refl l (last _ _ _ _ refl l)))))
 
+    near-cycles : (p : ℕ) → Near (length ws) (cyclesCheck ws p)
+    unfolding cyclesCheck Near
+    near-cycles p = cases (hasCycles ws) (λ t. rw t (here (p + 3) 1 _ (λ h. last _ _ _ _ refl (omega arith)))) (λ t. rw t tt)
+
     near-entry : (p : ℕ) → Near (length ws) (entryCheck ws width p)
     unfolding entryCheck
     near-entry p =
         near-then _ _ _ (near-head p) (λ t. let l : p ≤ length ws = omega (arith, head-fits ws width p t) in
-        near-then _ _ _ (near-pattern _ (p + 1)) (λ u. near-then _ _ _ (near-fields width _ p _ _ (p + 3) l) (λ v. near-conditions _ _ _)))
+        near-then _ _ _ (near-pattern _ (p + 1)) (λ u. near-then _ _ _ (near-cycles p) (λ x.
+        near-then _ _ _ (near-fields width _ p _ _ (fieldsPlace ws p) l) (λ v. near-conditions _ _ _))))
 
     near-entries : (n p : ℕ) → Near (length ws) (entriesCheck ws width n p)
     unfolding entriesCheck

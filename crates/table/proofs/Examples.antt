@@ -5,17 +5,18 @@ use Prim.Native.Nat.{ℕ, _<_}
 use native.Mathlib.Omega.{arith}
 use lib.ListN.{length}
 use borrow.Author.Tests.{le-leb, lt-leb}
+use Rattle.words.specs.Tests.{_or_}
 use Rattle.words.specs.Words.{part, run, includes}
 use Rattle.words.specs.Outcome.{Outcome, result, faulty}
-use Rattle.table.specs.Table.{Pattern, Field, Condition, Entry, Table, fieldBits, fieldsAt, unmatchingAt, conditionsAt, conditionsEnd, entriesAt}
-use Rattle.table.specs.Check.{_then_, need, patternCheck, unmatchingCheck, unmatchingsCheck, conditionCheck, conditionsCheck, fieldRule, fieldCheck, fieldsCheck, headCheck, entryCheck, entriesCheck, firstCheck, tableCheck, readTable}
+use Rattle.table.specs.Table.{Pattern, Field, Condition, Entry, Table, fieldBits, fieldsAt, unmatchingAt, conditionsAt, conditionsEnd, hasCycles, fieldsPlace, cyclesAt, entriesAt}
+use Rattle.table.specs.Check.{_then_, need, patternCheck, unmatchingCheck, unmatchingsCheck, conditionCheck, conditionsCheck, fieldRule, fieldCheck, fieldsCheck, headCheck, cyclesCheck, entryCheck, entriesCheck, firstCheck, tableCheck, readTable}
 use Rattle.table.specs.Answer.{shapeOf}
-use Rattle.table.specs.Worked.{printed, worked}
+use Rattle.table.specs.Worked.{printed, costed, worked}
 use Rattle.table.proofs.Laws.{checks}
 
 -- what reading a table says, with every definition open
 unfoldable pub opened : List ℕ → Outcome Table
-unfolding part run includes fieldBits fieldsAt unmatchingAt conditionsAt conditionsEnd entriesAt _then_ need patternCheck unmatchingCheck unmatchingsCheck conditionCheck conditionsCheck fieldRule fieldCheck fieldsCheck headCheck entryCheck entriesCheck firstCheck tableCheck
+unfolding part run includes fieldBits fieldsAt unmatchingAt conditionsAt conditionsEnd hasCycles fieldsPlace cyclesAt entriesAt _or_ _then_ need patternCheck unmatchingCheck unmatchingsCheck conditionCheck conditionsCheck fieldRule fieldCheck fieldsCheck headCheck cyclesCheck entryCheck entriesCheck firstCheck tableCheck
 opened ws = readTable ws
 
 abbrev pattern : ℕ → ℕ → Pattern
@@ -28,13 +29,20 @@ field l w = record { low = l; width = w }
 
 printed-reads :
     readTable printed
-    ≡ result (record { width = 2; entries = record { label = 5; size = 2; opcode = pattern 2 2; fields = field 0 1 ∷ []; conditions = [] } ∷ [] })
+    ≡ result (record { width = 2; entries = record { label = 5; size = 2; opcode = pattern 2 2; cycles = 0; fields = field 0 1 ∷ []; conditions = [] } ∷ [] })
 unfolding opened
 printed-reads = refl
 
+-- with cycles
+costed-reads :
+    readTable costed
+    ≡ result (record { width = 2; entries = record { label = 5; size = 2; opcode = pattern 2 2; cycles = 77; fields = field 0 1 ∷ []; conditions = [] } ∷ [] })
+unfolding opened
+costed-reads = refl
+
 -- an entry of the worked table
 abbrev entry : ℕ → Pattern → List Field → List Condition → Entry
-entry l p fs ks = record { label = l; size = 8; opcode = p; fields = fs; conditions = ks }
+entry l p fs ks = record { label = l; size = 8; opcode = p; cycles = 0; fields = fs; conditions = ks }
 
 abbrev a : Field
 a = field 4 2
@@ -168,6 +176,33 @@ fields :
     ≡ faulty 4 4 ∷ faulty 4 4 ∷ faulty 4 4 ∷ faulty 4 4 ∷ faulty 4 5 ∷ faulty 4 1 ∷ faulty 4 1 ∷ []
 unfolding opened
 fields = refl
+
+-- kind 6. Good: no entries; cycles 0 and 65,535. Number 2: cycles of 17 bits, and of 32, at their word; none, with the length, of an entry
+-- with a field and of one without
+cycles :
+    map shapeOf (
+    refusals (
+    (0x60000002 ∷ [])
+    ∷ (0x60010001 ∷ 0x20000100 ∷ 1 ∷ 1 ∷ 0 ∷ [])
+    ∷ (0x60010001 ∷ 0x20000100 ∷ 1 ∷ 1 ∷ 0xffff ∷ [])
+    ∷ (0x60010001 ∷ 0x20000100 ∷ 1 ∷ 1 ∷ 0x10000 ∷ [])
+    ∷ (0x60010001 ∷ 0x20000100 ∷ 1 ∷ 1 ∷ 0xffffffff ∷ [])
+    ∷ (0x60010002 ∷ 0x20000210 ∷ 2 ∷ 2 ∷ [])
+    ∷ (0x60010001 ∷ 0x20000100 ∷ 1 ∷ 1 ∷ [])
+    ∷ []
+    )
+    )
+    ≡ result (record { width = 2; entries = 0 }) ∷ result (record { width = 1; entries = 1 }) ∷ result (record { width = 1; entries = 1 })
+    ∷ faulty 2 4 ∷ faulty 2 4 ∷ faulty 2 4 ∷ faulty 2 4 ∷ []
+unfolding opened
+cycles = refl
+
+-- kind 6, two faults: a value outside its mask comes before the cycles; they come before the field, and before the cover of no fields
+cycles-first :
+    refusals ((0x60010002 ∷ 0x20000210 ∷ 2 ∷ 1 ∷ 0x10000 ∷ []) ∷ (0x60010002 ∷ 0x20000210 ∷ 2 ∷ 2 ∷ 0x10000 ∷ 0x30000002 ∷ []) ∷ (0x60010002 ∷ 0x20000200 ∷ 2 ∷ 2 ∷ 0x10000 ∷ []) ∷ [])
+    ≡ faulty 3 2 ∷ faulty 2 4 ∷ faulty 2 4 ∷ []
+unfolding opened
+cycles-first = refl
 
 -- two faults: the first in reading order. A spare bit of a field whose bits are wrong too is 2; a last field's own fault comes before the cover;
 -- a bad mask whose value is missing is 2 with the length

@@ -70,14 +70,14 @@ module _ (ws : List ℕ) (width : ℕ) where
     good-entry =
         let t = then-r _ _ e in
         and-i (good-pattern ws width _ below (opcodePlace ws p) (then-l _ _ t))
-        (each-condition ws width _ below (goodCondition width) (good-condition ws width _ below) _ _ (then-r _ _ (then-r _ _ t)))
+        (each-condition ws width _ below (goodCondition width) (good-condition ws width _ below) _ _ (then-r _ _ (then-r _ _ (then-r _ _ t))))
 
     pub own-entry : ownEntry width (entryAt ws p) ≡ true
     unfolding entryCheck ownEntry
     own-entry =
         let t = then-r _ _ e in
         and-i (own-pattern ws width _ below (opcodePlace ws p) (then-l _ _ t))
-        (each-condition ws width _ below (ownCondition _) (own-condition ws width _ below) _ _ (then-r _ _ (then-r _ _ t)))
+        (each-condition ws width _ below (ownCondition _) (own-condition ws width _ below) _ _ (then-r _ _ (then-r _ _ (then-r _ _ t))))
 
   each-entry : (q : Entry → Bool) → ((p : ℕ) → entryCheck ws width p ≡ fine → q (entryAt ws p) ≡ true) → (n p : ℕ)
       → entriesCheck ws width n p ≡ fine → allOf q (entriesAt ws n p) ≡ true

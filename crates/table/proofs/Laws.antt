@@ -1,22 +1,24 @@
 -- Laws of the reader's definitions: how a check computes, loops over items, what a check without fault shows. Assumes nothing.
 use mathlib.Core.Path.{_≡_, refl, sym, ap, _∙_}
-use mathlib.Core.List.{List}
+use mathlib.Core.List.{List, [], _∷_}
 use mathlib.Core.Bool.{Bool, true, false, cond}
 use Prim.Native.Nat.{ℕ, zero, suc, _+_, _-_, _*_, _≤_, _<_}
 use native.Mathlib.Nat.{add-zero, eq-or-lt-of-le}
-use mathlib.Core.Logic.{⊎-elim}
+use mathlib.Core.Logic.{⊎-elim, inl, inr}
+use types.Run.{OneOf}
 use native.Mathlib.Numerals.{sub-one, add-one}
 use native.Mathlib.Omega.{arith}
 use lib.Bits.{bitOr}
 use lib.Dec.{eqb, leb, ltb}
 use lib.ListN.{length, getD, set}
 use lib.Seq.{getD-set-same, getD-set-other}
-use borrow.Author.Tests.{eqb-true, eqb-false, ltb-true, ltb-false, leb-true, lt-leb, le-leb, lt-ltb, le-ltb}
+use borrow.Author.Tests.{eq-eqb, ne-eqb, eqb-true, eqb-false, ltb-true, ltb-false, leb-true, lt-leb, le-leb, lt-ltb, le-ltb}
 use Rattle.words.specs.Words.{word}
-use Rattle.words.proofs.Logic.{cases}
+use Rattle.words.specs.Tests.{_or_}
+use Rattle.words.proofs.Logic.{cases, or-i, or-il, or-ir}
 use Rattle.words.specs.Outcome.{result, faulty}
-use Rattle.table.specs.Table.{fieldLow, fieldWidth, fieldBits, ownBits, sizeOf, fieldsOf, conditionsOf, conditionEnd, conditionsEnd, entryEnd, entryPlace, entriesAt, countOf, widthOf}
-use Rattle.table.specs.Check.{Check, fine, fault, _then_, need, has, patternCheck, unmatchingCheck, unmatchingsCheck, conditionCheck, conditionsCheck, fieldRule, fieldCheck, fieldsCheck, headCheck, entryCheck, entriesCheck, firstCheck, tableCheck, readTable}
+use Rattle.table.specs.Table.{fieldLow, fieldWidth, fieldBits, ownBits, sizeOf, fieldsOf, conditionsOf, conditionEnd, conditionsEnd, hasCycles, fieldsPlace, entryEnd, entryPlace, entriesAt, countOf, widthOf}
+use Rattle.table.specs.Check.{Check, fine, fault, _then_, need, has, patternCheck, unmatchingCheck, unmatchingsCheck, conditionCheck, conditionsCheck, fieldRule, fieldCheck, fieldsCheck, headCheck, cyclesCheck, entryCheck, entriesCheck, firstCheck, tableCheck, readTable}
 use Rattle.table.specs.Answer.{step, shapeOf, placeOf, Placed}
 use Rattle.table.specs.declared.Step.{Step}
 use Rattle.table.specs.declared.Step.the-variants.{Next, Fault}
@@ -245,6 +247,20 @@ conditions-fit ws own zero p h t = h
 conditions-fit ws own (suc n) p h t = conditions-fit ws own n (conditionEnd ws p) (condition-fits ws own p (then-l _ _ t)) (then-r _ _ t)
 
 -- ---- an entry
+
+-- its fields stand soon after its place, and its cycles, without fault, before them
+module _ (ws : List ℕ) (p : ℕ) where
+  pub fields-near : fieldsPlace ws p ≤ p + 4
+  unfolding fieldsPlace
+  fields-near = cases (hasCycles ws) (λ t. rw t (omega arith)) (λ t. rw t (omega arith))
+
+  pub cycles-fit : p + 3 ≤ length ws → cyclesCheck ws p ≡ fine → fieldsPlace ws p ≤ length ws
+  unfolding fieldsPlace cyclesCheck
+  cycles-fit h e =
+      cases (hasCycles ws)
+      (λ t. rw t (omega (arith, has-fits ws (p + 3) 1 (then-l _ _ (rw t at e)))))
+      (λ t. rw t h)
+
 module _ (ws : List ℕ) (width p : ℕ) where
   pub head-fits : headCheck ws width p ≡ fine → p + 1 ≤ length ws
   unfolding headCheck
@@ -264,24 +280,34 @@ module _ (ws : List ℕ) (width p : ℕ) where
     unfolding entryCheck
     opcode-stop a b q t = rw (h, fine-then, ← s, ← o) (step-fault _ _ _ _ _ _ t)
 
-    module _ (d : patternCheck ws own (p + 1) ≡ fine) (n : ℕ) (k : n ≡ fieldsOf (word ws p)) where
-      pub fields-stop′ : (a b q : ℕ) → step (fieldsCheck ws p width size (word ws (p + 1)) n (p + 3)) (p + 3 + n) ≡ Fault a b
-          → Fault a b ≡ step (entryCheck ws width p) q
+    module _ (d : patternCheck ws own (p + 1) ≡ fine) where
+      pub cycles-stop : (a b q : ℕ) → step (cyclesCheck ws p) (fieldsPlace ws p) ≡ Fault a b → Fault a b ≡ step (entryCheck ws width p) q
       unfolding entryCheck
-      fields-stop′ a b q t = rw (h, fine-then, ← s, ← o, d, fine-then, ← k) (step-fault _ _ _ _ _ _ t)
+      cycles-stop a b q t = rw (h, fine-then, ← s, ← o, d, fine-then) (step-fault _ _ _ _ _ _ t)
 
-      pub conditions-rest : (m q : ℕ) (r : Step) → step (fieldsCheck ws p width size (word ws (p + 1)) n (p + 3)) (p + 3 + n) ≡ Next q
-          → m ≡ conditionsOf (word ws p) → r ≡ step (conditionsCheck ws own m q) (conditionsEnd ws m q) → r ≡ step (entryCheck ws width p) (entryEnd ws p)
-      unfolding entryCheck
-      conditions-rest m q r t j u =
-          rw (h, fine-then, ← s, ← o, d, fine-then, ← k, ← j, ← next-place _ _ _ t) (u ∙ sym (step-next _ _ _ _ _ t))
+      -- f is where the code goes on to the fields
+      module _ (f : ℕ) (c : step (cyclesCheck ws p) (fieldsPlace ws p) ≡ Next f) (n : ℕ) (k : n ≡ fieldsOf (word ws p)) where
+        abbrev fields-check : Check
+        fields-check = fieldsCheck ws p width size (word ws (p + 1)) n f
+
+        pub fields-stop′ : (a b q : ℕ) → step fields-check (f + n) ≡ Fault a b → Fault a b ≡ step (entryCheck ws width p) q
+        unfolding entryCheck
+        fields-stop′ a b q t = rw (h, fine-then, ← s, ← o, d, fine-then, next-fine _ _ _ c, fine-then, ← k, ← next-place _ _ _ c) (step-fault _ _ _ _ _ _ t)
+
+        pub conditions-rest : (m q : ℕ) (r : Step) → step fields-check (f + n) ≡ Next q
+            → m ≡ conditionsOf (word ws p) → r ≡ step (conditionsCheck ws own m q) (conditionsEnd ws m q) → r ≡ step (entryCheck ws width p) (entryEnd ws p)
+        unfolding entryCheck
+        conditions-rest m q r t j u =
+            rw (h, fine-then, ← s, ← o, d, fine-then, next-fine _ _ _ c, fine-then, ← k, ← j, ← next-place _ _ _ c, ← next-place _ _ _ t) (u ∙ sym (step-next _ _ _ _ _ t))
 
   pub entry-fits : entryCheck ws width p ≡ fine → entryEnd ws p ≤ length ws
   unfolding entryCheck
   entry-fits e =
       let t = then-r _ _ e in
       let u = then-r _ _ t in
-      conditions-fit ws _ _ _ (fields-fit ws p width (sizeOf (word ws p)) (word ws (p + 1)) _ (p + 3) (omega (arith, pattern-fits ws _ (p + 1) (then-l _ _ t))) (then-l _ _ u)) (then-r _ _ u)
+      let v = then-r _ _ u in
+      let f = cycles-fit ws p (omega (arith, pattern-fits ws _ (p + 1) (then-l _ _ t))) (then-l _ _ u) in
+      conditions-fit ws _ _ _ (fields-fit ws p width (sizeOf (word ws p)) (word ws (p + 1)) _ (fieldsPlace ws p) f (then-l _ _ v)) (then-r _ _ v)
 
   pub entry-next : (q : ℕ) → step (entryCheck ws width p) (entryEnd ws p) ≡ Next q → q ≤ length ws
   entry-next q e = rw (next-place _ _ _ e) (entry-fits (next-fine _ _ _ e))
@@ -347,6 +373,15 @@ pub placed-all : (ws l : List ℕ) (k n : ℕ) → k ≤ n → n ≤ k → Place
 placed-all ws l k n h g f = let e : k ≡ n = omega arith in rw e at f
 
 -- ---- the whole table
+
+-- a table's first word is of kind 1 or 6
+module _ (k : ℕ) where
+  pub kind-yes : OneOf (1 ∷ 6 ∷ []) k → eqb k 1 or eqb k 6 ≡ true
+  kind-yes = ⊎-elim (λ e. or-il _ (eq-eqb _ _ e)) (λ e. or-ir _ (eq-eqb _ _ e))
+
+  pub kind-no : (OneOf (1 ∷ 6 ∷ []) k → ⊥) → eqb k 1 or eqb k 6 ≡ false
+  kind-no h = or-i (ne-eqb _ _ (λ e. h (inl e))) (ne-eqb _ _ (λ e. h (inr e)))
+
 pub fault-is : (v : Check) (q a b : ℕ) → step v q ≡ Fault a b → v ≡ fault a b
 unfolding step
 fault-is fine q a b e = absurd (let z : _≡_ {A = ℕ} 0 1 = cc in omega arith)

@@ -9,13 +9,14 @@ use lib.ListN.{length, getD}
 use borrow.Author.Tests.{leb-true, lt-ltb}
 use Rattle.words.specs.Words.{word}
 use Rattle.words.specs.Outcome.{result, faulty}
-use Rattle.table.specs.Table.{Table, Entry, widthOf, countOf, sizeOf, fieldsOf, conditionsOf, unmatchingOf, conditionEnd, opcodePlace, fieldsPlace, conditionsPlace, entryAt, entriesAt, entryPlace, tableOf, ownBits}
-use Rattle.table.specs.Check.{Check, fine, fault, reading, readTable, tableCheck, firstCheck, unmatchingsCheck, conditionCheck, conditionsCheck, fieldsCheck, headCheck, entryCheck, entriesCheck}
+use Rattle.words.proofs.Logic.{cases}
+use Rattle.table.specs.Table.{Table, Entry, widthOf, countOf, sizeOf, fieldsOf, conditionsOf, unmatchingOf, conditionEnd, hasCycles, opcodePlace, fieldsPlace, conditionsPlace, cyclesAt, entryAt, entriesAt, entryPlace, tableOf, ownBits}
+use Rattle.table.specs.Check.{Check, fine, fault, reading, readTable, tableCheck, firstCheck, unmatchingsCheck, conditionCheck, conditionsCheck, fieldsCheck, headCheck, cyclesCheck, entryCheck, entriesCheck}
 use Rattle.table.specs.Ready.{Ready}
 use Rattle.table.specs.Answer.{Shape, shapeOf, said, Reads}
 use Rattle.table.specs.declared.Answer.the-variants.{Accepted, Refused}
 use Rattle.table.specs.declared.Reading.{Reading}
-use Rattle.table.proofs.Laws.{then-l, then-r, need-true, pattern-fits, unmatching-fits, fields-fit, head-fits, first-some, first-short, first-count, first-wide, first-width, accepts-places, accepts}
+use Rattle.table.proofs.Laws.{then-l, then-r, need-true, pattern-fits, unmatching-fits, fields-fit, head-fits, cycles-fit, first-some, first-short, first-count, first-wide, first-width, accepts-places, accepts}
 
 -- ---- patterns and conditions, one by one
 
@@ -65,14 +66,27 @@ module _ (ws : List ℕ) (width p : ℕ) (e : entryCheck ws width p ≡ fine) wh
 
   pub entry-field-check : fieldsCheck ws p width (sizeOf (word ws p)) (word ws (opcodePlace ws p)) (fieldsOf (word ws p)) (fieldsPlace ws p) ≡ fine
   unfolding entryCheck
-  entry-field-check = then-l _ _ (then-r _ _ (then-r _ _ e))
+  entry-field-check = then-l _ _ (then-r _ _ (then-r _ _ (then-r _ _ e)))
+
+  entry-cycles : cyclesCheck ws p ≡ fine
+  unfolding entryCheck
+  entry-cycles = then-l _ _ (then-r _ _ (then-r _ _ e))
+
+  -- "0 to 65,535"
+  pub entry-cost : cyclesAt ws p ≤ 65535
+  unfolding cyclesCheck cyclesAt
+  entry-cost =
+      cases (hasCycles ws)
+      (λ t. rw t (leb-true _ _ (need-true _ _ _ (then-r _ _ (rw t at entry-cycles)))))
+      (λ t. rw t (omega arith))
 
   pub entry-fields : conditionsPlace ws p ≤ length ws
-  entry-fields = fields-fit ws p width (sizeOf (word ws p)) (word ws (opcodePlace ws p)) _ (fieldsPlace ws p) (omega (arith, entry-opcode)) entry-field-check
+  entry-fields =
+      fields-fit ws p width (sizeOf (word ws p)) (word ws (opcodePlace ws p)) _ (fieldsPlace ws p) (cycles-fit ws p (omega (arith, entry-opcode)) entry-cycles) entry-field-check
 
   pub entry-conditions : conditionsCheck ws (ownBits width (sizeOf (word ws p))) (conditionsOf (word ws p)) (conditionsPlace ws p) ≡ fine
   unfolding entryCheck
-  entry-conditions = then-r _ _ (then-r _ _ (then-r _ _ e))
+  entry-conditions = then-r _ _ (then-r _ _ (then-r _ _ (then-r _ _ e)))
 
   pub entry-few-fields : fieldsOf (word ws p) ≤ 8
   unfolding headCheck
@@ -111,6 +125,15 @@ module _ (ws : List ℕ) (width : ℕ) where
   pub entry-at : (k n : ℕ) (d : Entry) → k < n → getD (entriesAt ws n 1) k d ≡ entryAt ws (entryPlace ws k)
   unfolding entryPlace
   entry-at k n d h = rw zero-add at (entry-from k n 0 d h)
+
+-- ---- a table that was read
+
+reading-is : (v : Check) (x t : Table) → reading v x ≡ result t → (v ≡ fine) × (x ≡ t)
+reading-is fine x t e = (refl, cc)
+reading-is (fault n p) x t e = absurd (let z : _≡_ {A = ℕ} 0 1 = cc in omega arith)
+
+pub read-is : (ws : List ℕ) (t : Table) → readTable ws ≡ result t → (tableCheck ws ≡ fine) × (tableOf ws ≡ t)
+read-is ws t e = reading-is (tableCheck ws) (tableOf ws) t e
 
 -- ---- what the reader's answer tells a caller
 

@@ -5,9 +5,10 @@ use mathlib.Core.List.{List}
 use lib.Bits.{bitAnd, bitOr}
 use lib.Dec.{eqb, leb}
 use lib.ListN.{length}
+use Rattle.words.specs.Tests.{_or_}
 use Rattle.words.specs.Words.{word, bits, includes}
 use Rattle.words.specs.Outcome.{Outcome, result, faulty}
-use Rattle.table.specs.Table.{Table, kindOf, countOf, widthOf, sizeOf, fieldsOf, conditionsOf, unmatchingOf, fieldLow, fieldWidth, fieldBits, conditionEnd, opcodePlace, fieldsPlace, conditionsPlace, entryEnd, tableOf, ownBits}
+use Rattle.table.specs.Table.{Table, kindOf, countOf, widthOf, sizeOf, fieldsOf, conditionsOf, unmatchingOf, fieldLow, fieldWidth, fieldBits, conditionEnd, hasCycles, opcodePlace, cyclesPlace, fieldsPlace, conditionsPlace, entryEnd, tableOf, ownBits}
 
 -- nothing faulty, or the first fault: its number and its place
 pub data Check : Type 0 where
@@ -99,11 +100,19 @@ headCheck ws width p =
     then need (leb (fieldsOf (word ws p)) 8) 2 p
     then need (leb (conditionsOf (word ws p)) 8) 2 p
 
--- an entry: head word, opcode pattern, fields, conditions
+-- the cycles word of an entry, in a table that has them: "0 to 65,535, upper bits zero, else number 2"
+unfoldable pub cyclesCheck : List ℕ → ℕ → Check
+cyclesCheck ws p =
+    cond (hasCycles ws)
+    (has ws (cyclesPlace ws p) 1 then need (leb (word ws (cyclesPlace ws p)) 65535) 2 (cyclesPlace ws p))
+    fine
+
+-- an entry: head word, opcode pattern, cycles "after each entry's value word", fields, conditions
 unfoldable pub entryCheck : List ℕ → ℕ → ℕ → Check
 entryCheck ws width p =
     headCheck ws width p
     then patternCheck ws (ownBits width (sizeOf (word ws p))) (opcodePlace ws p)
+    then cyclesCheck ws p
     then fieldsCheck ws p width (sizeOf (word ws p)) (word ws (opcodePlace ws p)) (fieldsOf (word ws p)) (fieldsPlace ws p)
     then conditionsCheck ws (ownBits width (sizeOf (word ws p))) (conditionsOf (word ws p)) (conditionsPlace ws p)
 
@@ -112,12 +121,13 @@ unfoldable pub entriesCheck : List ℕ → ℕ → ℕ → ℕ → Check
 entriesCheck ws width zero p = need (leb (length ws) p) 2 p
 entriesCheck ws width (suc n) p = entryCheck ws width p then entriesCheck ws width n (entryEnd ws p)
 
--- "table empty, too long, or wrong first word": 1 with "place 0"; "at most 16,384" words, entries "(0–256)", width "(1–32)"
+-- "table empty, too long, or wrong first word": 1 with "place 0"; "at most 16,384" words, "kind 6 in place of kind 1", entries "(0–256)",
+-- width "(1–32)"
 unfoldable pub firstCheck : List ℕ → Check
 firstCheck ws =
     need (leb 1 (length ws)) 1 0
     then need (leb (length ws) 16384) 1 0
-    then need (eqb (kindOf (word ws 0)) 1) 1 0
+    then need (eqb (kindOf (word ws 0)) 1 or eqb (kindOf (word ws 0)) 6) 1 0
     then need (eqb (bits 15 8 (word ws 0)) 0) 1 0
     then need (leb (countOf (word ws 0)) 256) 1 0
     then need (leb 1 (widthOf (word ws 0))) 1 0

@@ -1,6 +1,8 @@
 -- What the words of a table say, where none is faulty ('The pattern table').
 use Prim.Native.Nat.{ℕ, zero, suc, _+_, _-_, _*_}
+use mathlib.Core.Bool.{Bool, cond}
 use mathlib.Core.List.{List, [], _∷_}
+use lib.Dec.{eqb}
 use lib.ListN.{getD}
 use Rattle.words.specs.Words.{word, bits, run}
 
@@ -24,6 +26,7 @@ pub record Entry : Type 0 where
   pub label : ℕ
   pub size : ℕ
   pub opcode : Pattern
+  pub cycles : ℕ
   pub fields : List Field
   pub conditions : List Condition
 
@@ -107,18 +110,30 @@ unfoldable pub conditionsEnd : List ℕ → ℕ → ℕ → ℕ
 conditionsEnd ws zero p = p
 conditionsEnd ws (suc n) p = conditionsEnd ws n (conditionEnd ws p)
 
--- "Two plain words follow, mask and value": the places of an entry's opcode pattern, its first field, its first condition, and the next entry
+-- "A table that begins with kind 6 in place of kind 1 has, after each entry's value word, a word with its cycles" (document 02, No. 3)
+unfoldable pub hasCycles : List ℕ → Bool
+hasCycles ws = eqb (kindOf (word ws 0)) 6
+
+-- "Two plain words follow, mask and value": the places of an entry's opcode pattern, of its cycles where the table has them, of its
+-- first field, its first condition, and the next entry
 abbrev pub opcodePlace : List ℕ → ℕ → ℕ
 opcodePlace ws p = p + 1
 
-abbrev pub fieldsPlace : List ℕ → ℕ → ℕ
-fieldsPlace ws p = p + 3
+abbrev pub cyclesPlace : List ℕ → ℕ → ℕ
+cyclesPlace ws p = p + 3
+
+unfoldable pub fieldsPlace : List ℕ → ℕ → ℕ
+fieldsPlace ws p = cond (hasCycles ws) (p + 4) (p + 3)
 
 abbrev pub conditionsPlace : List ℕ → ℕ → ℕ
 conditionsPlace ws p = fieldsPlace ws p + fieldsOf (word ws p)
 
 abbrev pub entryEnd : List ℕ → ℕ → ℕ
 entryEnd ws p = conditionsEnd ws (conditionsOf (word ws p)) (conditionsPlace ws p)
+
+-- "Kind 1 tables are still read, with cycles 0"
+unfoldable pub cyclesAt : List ℕ → ℕ → ℕ
+cyclesAt ws p = cond (hasCycles ws) (word ws (cyclesPlace ws p)) 0
 
 -- "After an entry come its fields, then its conditions"
 abbrev pub entryAt : List ℕ → ℕ → Entry
@@ -127,6 +142,7 @@ entryAt ws p =
       label = labelOf (word ws p);
       size = sizeOf (word ws p);
       opcode = patternAt ws (opcodePlace ws p);
+      cycles = cyclesAt ws p;
       fields = fieldsAt ws (fieldsOf (word ws p)) (fieldsPlace ws p);
       conditions = conditionsAt ws (conditionsOf (word ws p)) (conditionsPlace ws p);
     }
@@ -147,7 +163,7 @@ tableOf ws = record { width = widthOf (word ws 0); entries = entriesAt ws (count
 
 -- entry number i
 abbrev pub entryNumber : List Entry → ℕ → Entry
-entryNumber es i = getD es i (record { label = 0; size = 0; opcode = record { mask = 0; value = 0 }; fields = []; conditions = [] })
+entryNumber es i = getD es i (record { label = 0; size = 0; opcode = record { mask = 0; value = 0 }; cycles = 0; fields = []; conditions = [] })
 
 -- "A short entry stands at the top of the word: its own bits are width−1 down to width−length"
 abbrev pub ownBits : ℕ → ℕ → ℕ

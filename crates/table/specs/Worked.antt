@@ -6,6 +6,10 @@ use mathlib.Core.List.{List, [], _∷_, _++_}
 abbrev pub printed : List ℕ
 printed = 0x10010002 ∷ 0x20050210 ∷ 0x00000002 ∷ 0x00000002 ∷ 0x30000001 ∷ []
 
+-- the same with 77 cycles, as a table of kind 6 (document 02, No. 3)
+abbrev pub costed : List ℕ
+costed = 0x60010002 ∷ 0x20050210 ∷ 0x00000002 ∷ 0x00000002 ∷ 77 ∷ 0x30000001 ∷ []
+
 -- the fields a, b, c, f of the worked table
 abbrev a : ℕ
 a = 0x30000402

@@ -4,8 +4,8 @@ ghost use mathlib.Core.Path.{_≡_};
 ghost use Prim.Native.Nat.{ℕ, _+_, _*_, _≤_, _<_, _^_};
 ghost use lib.ListN.{length, getD};
 ghost use Rattle.words.specs.Outcome.{causeOf};
-ghost use Rattle.table.specs.Table.{fieldLow, fieldWidth, fieldBits, ownBits, conditionEnd, conditionsEnd, entryEnd};
-ghost use Rattle.table.specs.Check.{fine, patternCheck, unmatchingCheck, unmatchingsCheck, conditionCheck, conditionsCheck, fieldRule, fieldCheck, fieldsCheck, headCheck, entryCheck, entriesCheck, firstCheck, readTable};
+ghost use Rattle.table.specs.Table.{fieldLow, fieldWidth, fieldBits, ownBits, conditionEnd, conditionsEnd, hasCycles, fieldsPlace, conditionsPlace, entryEnd};
+ghost use Rattle.table.specs.Check.{fine, patternCheck, unmatchingCheck, unmatchingsCheck, conditionCheck, conditionsCheck, fieldRule, fieldCheck, fieldsCheck, headCheck, cyclesCheck, entryCheck, entriesCheck, firstCheck, readTable};
 ghost use Rattle.table.specs.Answer.{step, said, AllPlaced, Refusal, Reads};
 
 // On to the next place, or the first fault: its number and its place.
@@ -229,7 +229,49 @@ fn head(ws: &[u32], width: u32, p: usize) -> Step
     Step::Next(next)
 }
 
-// An entry at p: head word, opcode pattern, fields, conditions.
+// Whether the entries of a table have a cycles word each: its first word is of kind 6.
+pub fn has_cycles(ws: &[u32]) -> bool
+    ensures { λ r. ⌜ r ≡ hasCycles (now (ws .entry)) ⌝ }
+{
+    words::part(words::word_at(ws, 0), 28, 4) == 6
+}
+
+// The place of the first field of the entry at p.
+pub fn fields_at(ws: &[u32], p: u32) -> usize
+    ensures { λ r. ⌜ (r ≡ fieldsPlace (now (ws .entry)) p) × (r ≤ p + 4) ⌝ }
+{
+    let at = p as usize;
+    if has_cycles(ws) { at + 4 } else { at + 3 }
+}
+
+// The place of its first condition.
+pub fn conditions_at(ws: &[u32], p: u32) -> usize
+    ensures { λ r. ⌜ (r ≡ conditionsPlace (now (ws .entry)) p) × (r ≤ p + 19) ⌝ }
+{
+    let fields = words::part(words::word_at(ws, p as usize), 4, 4);
+    fields_at(ws, p) + fields as usize
+}
+
+// The cycles word of an entry at p, where the table has them; on to the fields.
+fn cycles(ws: &[u32], p: usize) -> Step
+    requires { ⌜ p + 3 ≤ length (now ws) ⌝ }
+    ensures { λ r. ⌜ r ≡ step (cyclesCheck (now (ws .entry)) p) (fieldsPlace (now (ws .entry)) p) ⌝ }
+{
+    let place = p + 3;
+    if !has_cycles(ws) {
+        return Step::Next(place);
+    }
+    if ws.len() < place + 1 {
+        return Step::Fault(2, ws.len());
+    }
+    if 65535 < ws[place] {
+        return Step::Fault(2, place);
+    }
+    let next = place + 1;
+    Step::Next(next)
+}
+
+// An entry at p: head word, opcode pattern, cycles, fields, conditions.
 fn entry(ws: &[u32], width: u32, p: usize) -> Step
     requires { ⌜ (p ≤ length (now ws)) × (width ≤ 32) ⌝ }
     ensures { λ r. ⌜ r ≡ step (entryCheck (now (ws .entry)) width p) (entryEnd (now (ws .entry)) p) ⌝ }
@@ -245,7 +287,11 @@ fn entry(ws: &[u32], width: u32, p: usize) -> Step
         Step::Next(_) => {}
         Step::Fault(number, place) => return Step::Fault(number, place),
     }
-    match fields(ws, p, width, size, ws[p + 1], words::part(w, 4, 4), p + 3) {
+    let first = match cycles(ws, p) {
+        Step::Next(q) => q,
+        Step::Fault(number, place) => return Step::Fault(number, place),
+    };
+    match fields(ws, p, width, size, ws[p + 1], words::part(w, 4, 4), first) {
         Step::Next(q) => conditions(ws, own, words::part(w, 0, 4), q),
         Step::Fault(number, place) => Step::Fault(number, place),
     }
@@ -303,8 +349,8 @@ fn first_word(ws: &[u32]) -> Step
     let w = ws[0];
     let kind = words::part(w, 28, 4);
     match kind {
-        1 => {}
-        0..=0 | 2.. => return Step::Fault(1, 0),
+        1 | 6 => {}
+        0..=0 | 2..=5 | 7.. => return Step::Fault(1, 0),
     }
     if words::part(w, 8, 8) != 0 {
         return Step::Fault(1, 0);

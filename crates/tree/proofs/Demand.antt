@@ -21,9 +21,10 @@ use Rattle.words.proofs.Logic.{and-r, options}
 use Rattle.words.proofs.Outcomes.{not-refused}
 use Rattle.words.specs.Outcome.{result, refused}
 use Rattle.table.specs.Table.{Entry, Table, countOf, tableOf}
-use Rattle.table.specs.Check.{Check, fine, fault, tableCheck, reading, readTable}
+use Rattle.table.specs.Check.{fine, tableCheck, readTable}
 use Rattle.table.specs.Lawful.{goodTable}
 use Rattle.table.proofs.Laws.{then-l, first-count, first-wide, first-width, length-entries}
+use Rattle.table.proofs.Views.{read-is}
 use Rattle.table.proofs.Good.{table-good}
 use Rattle.choice.specs.Rule.{Choice, names, nothing, ambiguous}
 use Rattle.selection.specs.Selection.{select}
@@ -87,10 +88,6 @@ right-walks es width n words w tests clear walks answers once few =
 
 -- ---- a table that was read
 
-reading-is : (v : Check) (x t : Table) → reading v x ≡ result t → (v ≡ fine) × (x ≡ t)
-reading-is fine x t e = (refl, cc)
-reading-is (fault n p) x t e = absurd (let z : _≡_ {A = ℕ} 0 1 = cc in omega arith)
-
 -- what reading has found of it
 pub record Sane (t : Table) : Type 0 where
   pub good : goodTable (t .width) (t .entries) ≡ true
@@ -110,7 +107,7 @@ fine-sane ws e =
     }
 
 pub read-sane : (ws : List ℕ) (t : Table) → readTable ws ≡ result t → Sane t
-read-sane ws t e = let r = reading-is (tableCheck ws) (tableOf ws) t e in subst Sane (r .1) (fine-sane ws (r .0))
+read-sane ws t e = let r = read-is ws t e in subst Sane (r .1) (fine-sane ws (r .0))
 
 -- ---- what an answer of generating tells of the tree
 

@@ -27,7 +27,7 @@ grown es width = conflict start (tree es width)
 
 -- an entry without conditions
 abbrev plain : ℕ → ℕ → Entry
-plain m v = record { label = 0; size = 3; opcode = record { mask = m; value = v }; fields = []; conditions = [] }
+plain m v = record { label = 0; size = 3; opcode = record { mask = m; value = v }; cycles = 0; fields = []; conditions = [] }
 
 -- width 3, 0-- and --0: 7 nodes, word 0 in conflict
 abbrev two : List Entry

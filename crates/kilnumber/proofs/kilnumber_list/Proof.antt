@@ -1,5 +1,5 @@
 use mathlib.Core.Path.{ap, _∙_}
-use Rattle.kilnumber.specs.Packed.{packedItems}
+use Rattle.kilnumber.specs.Packed.{packedNumber}
 use borrow.Author.Needs.{needs}
 use Rattle.kilnumber.proofs.kilnumber_list.Statement.{statement}
 use Rattle.kilnumber.proofs.kilnumber_list.Tie as tie
@@ -16,7 +16,7 @@ same-length c = search needs
 returns : tie.Need-returns
 returns c =
     let l = c .before .before .before in
-    record { answer = c .pack-items .ensures ∙ ap packedItems (l .list .ensures .answer); buffer = l .list .ensures .buffer }
+    record { answer = c .pack-items .ensures ∙ ap packedNumber (l .list .ensures .answer); buffer = l .list .ensures .buffer }
 
 pub kilnumber-list-spec : {M : Type 1} → statement M
 kilnumber-list-spec = tie.close (tie.spec list-requires pack-items-requires same-length returns)

@@ -8,7 +8,6 @@ use mathlib.Core.Option.{some}
 use mathlib.Core.Path.{_≡_, refl, sym, ap, _∙_}
 use denote.Ref.{now}
 use native.Mathlib.Omega.{arith}
-use Prim.Native.Nat.{ℕ, _≤_, _<_}
 use borrow.Author.Needs.{needs}
 use Rattle.operands.proofs.decode.Statement.{statement}
 use Rattle.operands.proofs.decode.Tie as tie
@@ -37,8 +36,8 @@ enum-told-2 c = search needs
 enum-known-answer-3 : tie.Need-enum-known-answer-3
 enum-known-answer-3 c = search needs
 
-cast-head : tie.Need-cast-head
-cast-head c = search needs
+cast-word-at : tie.Need-cast-word-at
+cast-word-at c = search needs
 
 word-at-requires : tie.Need-word-at-requires
 word-at-requires c κs = search needs
@@ -46,8 +45,8 @@ word-at-requires c κs = search needs
 part-requires : tie.Need-part-requires
 part-requires c κs = search needs
 
-add-take-out : tie.Need-add-take-out
-add-take-out c = search needs
+fields-at-requires : tie.Need-fields-at-requires
+fields-at-requires c κs = search needs
 
 -- the selected entry, its place, and what is known there
 is : (c : tie.After-known-told3) → result (some (c .before .answer3 .given .0 .0)) ≡ lookOf (readTable (now (c .before .before .before .before .before .before .before .args .ws))) (c .before .before .before .before .before .before .before .args .word)
@@ -61,8 +60,8 @@ here c = entry-stands _ _ _ _ (is c) (at-place c)
 
 take-out-requires : tie.Need-take-out-requires
 take-out-requires c κs =
-    let s = here (c .before .before .before) in
-    (omega (arith, s .near), omega (arith, s .few, part-of _ _ _ 4 4 (c .before .part .ensures) (c .before .before .word-at .ensures), c .before .before .before .before .before .before .before .if1 .left))
+    let s = here (c .before .before .before .before) in
+    (omega (arith, c .before .fields-at .ensures .1), omega (arith, s .few, part-of _ _ _ 4 4 (c .before .before .part .ensures) (c .before .before .before .word-at .ensures), c .before .before .before .before .before .before .before .before .if1 .left))
 
 returns-2 : tie.Need-returns-2
 returns-2 c = decode-faulty _ _ (now (c .before .before .before .before .before .before .before .args .out)) (c .before .before .before .before .if1 .left) _ _ (ap said (sym (c .before .answer .given .1)) ∙ c .before .before .before .find .ensures .answer)
@@ -81,8 +80,8 @@ same-length c = search needs
 
 returns-6 : tie.Need-returns-6
 returns-6 c =
-    decode-entry _ _ _ _ (is (c .before .before .before .before .before .before)) (at-place (c .before .before .before .before .before .before)) (now (c .before .before .before .before .before .before .before .before .before .before .before .before .before .args .out)) _ _
-    (part-of _ _ _ 4 4 (c .before .before .before .before .part .ensures) (c .before .before .before .before .before .word-at .ensures)) (c .before .before .before .before .before .before .before .before .before .before .if1 .left) (c .before .before .take-out .ensures)
+    decode-entry _ _ _ _ (is (c .before .before .before .before .before .before .before)) (at-place (c .before .before .before .before .before .before .before)) (now (c .before .before .before .before .before .before .before .before .before .before .before .before .before .before .args .out)) _ _ (part-of _ _ _ 4 4 (c .before .before .before .before .before .part .ensures) (c .before .before .before .before .before .before .word-at .ensures)) (c .before .before .before .before .before .before .before .before .before .before .before .if1 .left)
+    (rw (← c .before .before .before .before .fields-at .ensures .0) (c .before .before .take-out .ensures))
 
 pub decode-spec : {M : Type 1} → statement M
 decode-spec =
@@ -96,10 +95,10 @@ decode-spec =
     enum-known-answer-2
     enum-told-2
     enum-known-answer-3
-    cast-head
+    cast-word-at
     word-at-requires
     part-requires
-    add-take-out
+    fields-at-requires
     take-out-requires
     returns-2
     returns-3

@@ -6,10 +6,10 @@ use Rattle.table.specs.Table.{countOf}
 use Rattle.table.specs.Ready.{Ready}
 use Rattle.table.proofs.Views.{reading-ready, reading-faulty, ready-few}
 use lib.ListN.{getD}
-use mathlib.Core.Path.{_≡_, sym, _∙_}
+use mathlib.Core.Path.{sym, _∙_}
 use denote.Ref.{now}
 use native.Mathlib.Omega.{arith}
-use Prim.Native.Nat.{ℕ, _≤_, _<_}
+use Prim.Native.Nat.{_<_}
 use borrow.Author.Needs.{needs}
 use Rattle.operands.proofs.encode.Statement.{statement}
 use Rattle.operands.proofs.encode.Tie as tie
@@ -43,8 +43,8 @@ mul-p c = search needs
 array-read-p : tie.Need-array-read-p
 array-read-p c = omega (arith, ready-few _ _ _ _ (good (c .before)), c .if1 .left)
 
-cast-p : tie.Need-cast-p
-cast-p c = search needs
+cast-word-at : tie.Need-cast-word-at
+cast-word-at c = search needs
 
 word-at-requires : tie.Need-word-at-requires
 word-at-requires c κs = search needs
@@ -62,7 +62,7 @@ make-requires : tie.Need-make-requires
 make-requires c κs =
     let s = here (c .before .before .before) in
     let n = part-of _ _ _ 4 4 (c .before .part .ensures) (c .before .before .word-at .ensures) in
-    (omega (arith, s .near), omega (arith, s .few, n, c .if2 .left), entry-in-word _ _ _ _ (good (c .before .before .before .before) .good) s (c .if2 .left ∙ n))
+    (omega (arith, s .few, n, c .if2 .left), entry-in-word _ _ _ _ (good (c .before .before .before .before) .good) s (c .if2 .left ∙ n))
 
 returns-3 : tie.Need-returns-3
 returns-3 c = encode-faulty _ _ _ _ _ (reading-faulty _ _ (c .before .before .before .before .read .ensures) _ _ (c .before .answer .given .1))
@@ -80,7 +80,7 @@ encode-spec =
     returns
     mul-p
     array-read-p
-    cast-p
+    cast-word-at
     word-at-requires
     part-requires
     cast-n

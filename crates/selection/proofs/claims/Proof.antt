@@ -1,7 +1,7 @@
 use Rattle.words.proofs.Parts.{part-of, part-lt}
 use Rattle.selection.proofs.Exclusion.{claims-not, claims-by}
 use borrow.Author.Tests.{not-true, not-false}
-use mathlib.Core.Path.{_≡_, refl, sym, ap, _∙_}
+use mathlib.Core.Path.{_≡_, sym, _∙_}
 use native.Mathlib.Omega.{arith}
 use Rattle.words.specs.Words.{part}
 use borrow.Author.Needs.{needs}
@@ -20,28 +20,19 @@ returns c = claims-not (c .before .before .before .args .ws .now) (c .before .be
 word-at-requires : tie.Need-word-at-requires
 word-at-requires c κs = search needs
 
-add-first : tie.Need-add-first
-add-first c = search needs
-
 part-requires : tie.Need-part-requires
 part-requires c κs = search needs
 
-cast-first : tie.Need-cast-first
-cast-first c = search needs
-
-add-first-2 : tie.Need-add-first-2
-add-first-2 c = search needs
-
-part-requires-2 : tie.Need-part-requires-2
-part-requires-2 c κs = search needs
+conditions-at-requires : tie.Need-conditions-at-requires
+conditions-at-requires c κs = search needs
 
 excluded-requires : tie.Need-excluded-requires
 excluded-requires c κs =
-    let e : c .part2 .result ≡ part (c .before .before .word-at .result) 0 4 = c .part2 .ensures in
-    omega (arith, part-lt (c .before .before .word-at .result) 0 4)
+    let e : c .before .part .result ≡ part (c .before .before .word-at .result) 0 4 = c .before .part .ensures in
+    omega (arith, part-lt (c .before .before .word-at .result) 0 4, c .conditions-at .ensures .1)
 
 returns-2 : tie.Need-returns-2
-returns-2 c = claims-by (c .before .before .before .before .before .before .before .args .ws .now) (c .before .before .before .before .before .before .before .args .word) (c .before .before .before .before .before .before .before .args .p) _ _ _ (sym (c .before .before .before .before .before .matches .ensures) ∙ not-false _ (c .before .before .before .before .if1 .left)) (part-of _ _ _ 0 4 (c .before .part2 .ensures) (c .before .before .before .word-at .ensures)) (part-of _ _ _ 4 4 (c .before .before .part .ensures) (c .before .before .before .word-at .ensures)) (c .excluded .ensures)
+returns-2 c = claims-by (c .before .before .before .before .before .before .before .args .ws .now) (c .before .before .before .before .before .before .before .args .word) (c .before .before .before .before .before .before .before .args .p) _ _ _ (sym (c .before .before .before .before .before .matches .ensures) ∙ not-false _ (c .before .before .before .before .if1 .left)) (part-of _ _ _ 0 4 (c .before .before .part .ensures) (c .before .before .before .word-at .ensures)) (c .before .conditions-at .ensures .0) (c .excluded .ensures)
 
 pub claims-spec : {M : Type 1} → statement M
 claims-spec =
@@ -51,10 +42,7 @@ claims-spec =
     matches-requires
     returns
     word-at-requires
-    add-first
     part-requires
-    cast-first
-    add-first-2
-    part-requires-2
+    conditions-at-requires
     excluded-requires
     returns-2)

@@ -4,7 +4,6 @@ use Rattle.cell.specs.Step.{inOpen}
 use Rattle.words.proofs.Bits.{bit-none}
 use Rattle.cell.proofs.Parts.{entry-any}
 use borrow.Author.Tests.{eq-eqb, ne-eqb}
-use mathlib.Core.Path.{refl}
 use borrow.Author.Needs.{needs}
 use Rattle.cell.proofs.testing.entry_bits.Statement.{statement}
 use Rattle.cell.proofs.testing.entry_bits.Tie as tie
@@ -19,14 +18,8 @@ word-at-requires c κs = search needs
 followers-requires : tie.Need-followers-requires
 followers-requires c κs = search needs
 
-add-open-bits : tie.Need-add-open-bits
-add-open-bits c = search needs
-
-fields-requires : tie.Need-fields-requires
-fields-requires c κs = search needs
-
-add-open-bits-2 : tie.Need-add-open-bits-2
-add-open-bits-2 c = search needs
+conditions-from-requires : tie.Need-conditions-from-requires
+conditions-from-requires c κs = search needs
 
 open-bits-requires : tie.Need-open-bits-requires
 open-bits-requires c κs = search needs
@@ -37,7 +30,7 @@ returns-2 c = λ i.
     let b = c .before .before .before .before in
     let a = b .before .before .args in
     rw (eq-eqb _ _ (b .if1 .left))
-    (entry-any (a .table .now) (cell (a .fixed) (a .bits)) (a .p) _ _ _ _ (c .before .before .before .word-at .ensures) (c .before .before .followers .ensures .0) (c .before .fields .ensures .0) refl _ _ (c .open-bits .ensures i))
+    (entry-any (a .table .now) (cell (a .fixed) (a .bits)) (a .p) _ _ _ (c .before .before .before .word-at .ensures) (c .before .before .followers .ensures .0) (c .before .conditions-from .ensures .0) _ _ (c .open-bits .ensures i))
 
 pub entry-bits-spec : {M : Type 1} → statement M
 entry-bits-spec =
@@ -46,8 +39,6 @@ entry-bits-spec =
     returns
     word-at-requires
     followers-requires
-    add-open-bits
-    fields-requires
-    add-open-bits-2
+    conditions-from-requires
     open-bits-requires
     returns-2)

@@ -28,26 +28,14 @@ open-condition-bits-requires c κs = search needs
 sub-left : tie.Need-sub-left Inv-loop μ-loop
 sub-left c = search needs
 
-word-at-requires : tie.Need-word-at-requires Inv-loop μ-loop
-word-at-requires c κs = search needs
-
-followers-requires : tie.Need-followers-requires Inv-loop μ-loop
-followers-requires c κs = search needs
-
-mul-at : tie.Need-mul-at Inv-loop μ-loop
-mul-at c = search needs
-
-add-at : tie.Need-add-at Inv-loop μ-loop
-add-at c = search needs
-
-add-at-2 : tie.Need-add-at-2 Inv-loop μ-loop
-add-at-2 c = search needs
+conditions-after-requires : tie.Need-conditions-after-requires Inv-loop μ-loop
+conditions-after-requires c κs = search needs
 
 loop-less : tie.Need-loop-less Inv-loop μ-loop
 loop-less c = search needs
 
 loop-again : tie.Need-loop-again Inv-loop μ-loop
-loop-again c = (search needs, λ i. condition-gather (c .before .before .before .before .before .before .args .table .now) (λ k. openCondition (cell (c .before .before .before .before .before .before .args .fixed) (c .before .before .before .before .before .before .args .bits)) k and inCondition i k) i (c .before .before .before .before .loop .found) _ _ _ (c .before .before .before .before .loop .left) (c .before .before .before .before .loop .at) (c .before .before .before .loop-test .taken) (c .before .word-at .ensures) (c .followers .ensures .0) (c .before .before .open-condition-bits .ensures i) ∙ c .before .before .before .before .loop .inv .1 i)
+loop-again c = (search needs, λ i. condition-gather (c .before .before .before .before .before .args .table .now) (λ k. openCondition (cell (c .before .before .before .before .before .args .fixed) (c .before .before .before .before .before .args .bits)) k and inCondition i k) i (c .before .before .before .loop .found) _ (c .before .before .before .loop .left) (c .before .before .before .loop .at) _ (c .before .before .loop-test .taken) (c .conditions-after .ensures .0) (c .before .open-condition-bits .ensures i) ∙ c .before .before .before .loop .inv .1 i)
 
 returns : tie.Need-returns Inv-loop μ-loop
 returns c = λ i. sym (condition-gathered (c .before .before .before .args .table .now) (λ k. openCondition (cell (c .before .before .before .args .fixed) (c .before .before .before .args .bits)) k and inCondition i k) i (c .before .loop .found) (c .before .loop .left) (c .before .loop .at) (c .loop-test .left)) ∙ c .before .loop .inv .1 i
@@ -61,11 +49,7 @@ open-bits-spec =
     loop-holds
     open-condition-bits-requires
     sub-left
-    word-at-requires
-    followers-requires
-    mul-at
-    add-at
-    add-at-2
+    conditions-after-requires
     loop-less
     loop-again
     returns)

@@ -1,0 +1,40 @@
+use Rattle.cell.proofs.Searches.{none-left}
+use Rattle.table.specs.Table.{conditionsAt}
+use native.Mathlib.Omega.{arith}
+use mathlib.Core.Path.{ap}
+use borrow.Author.Needs.{needs}
+use Rattle.cell.proofs.standing.conditions_after.Statement.{statement}
+use Rattle.cell.proofs.standing.conditions_after.Tie as tie
+
+returns : tie.Need-returns
+returns c = (none-left _ _ _ _ (c .if1 .taken), omega arith)
+
+add-result : tie.Need-add-result
+add-result c = search needs
+
+word-at-requires : tie.Need-word-at-requires
+word-at-requires c κs = search needs
+
+followers-requires : tie.Need-followers-requires
+followers-requires c κs = search needs
+
+mul-result : tie.Need-mul-result
+mul-result c = search needs
+
+add-result-2 : tie.Need-add-result-2
+add-result-2 c = search needs
+
+returns-2 : tie.Need-returns-2
+returns-2 c = (rw (c .followers .ensures .0, c .before .word-at .ensures), omega (arith, c .followers .ensures .1))
+
+pub conditions-after-spec : {M : Type 1} → statement M
+conditions-after-spec =
+    tie.close
+    (tie.spec
+    returns
+    add-result
+    word-at-requires
+    followers-requires
+    mul-result
+    add-result-2
+    returns-2)

@@ -1,0 +1,112 @@
+-- Document 02, No. 3, sentence by sentence, over the definitions that the calls' contracts cite. Assumes nothing.
+--   `cost::cycles` answers `cyclesOf (readTable ws) e`; the other calls answer `lookOf`, `generateOf`, `measureOf`, `decodeOf`, `encodeOf` of
+--   `readTable ws`, and generating leaves `bufferOf (readTable ws) out`.
+--     either-kind, kind-one, kind-six, small     what an entry's cycles are
+--     no-such-entry, faulty-first     what is refused
+--     lookup-alike, generate-alike, buffer-alike, measure-alike, decode-alike, encode-alike     what does not depend on cycles
+use mathlib.Core.Path.{_≡_, sym, ap, _∙_, subst}
+use mathlib.Core.List.{List}
+use mathlib.Core.Logic.{_↔_, _⊎_, inl, inr}
+use Prim.Native.Nat.{ℕ, _+_, _≤_, _<_}
+use native.Mathlib.Omega.{arith}
+use lib.Dec.{eqb, ltb}
+use lib.ListN.{length}
+use borrow.Author.Tests.{lt-ltb, le-ltb, ltb-false, eqb-true}
+use Rattle.words.specs.Words.{word}
+use Rattle.words.specs.Outcome.{Outcome, result, faulty, refused}
+use Rattle.words.proofs.Logic.{cases, or-e}
+use Rattle.table.specs.Table.{Table, kindOf, hasCycles, cyclesAt, entryPlace, countOf, widthOf}
+use Rattle.table.specs.Check.{firstCheck, tableCheck, readTable}
+use Rattle.table.proofs.Laws.{then-l, then-r, need-true, length-entries}
+use Rattle.table.proofs.Views.{read-is, entry-check, entry-at, entry-cost}
+use Rattle.selection.specs.Lookup.{lookOf}
+use Rattle.tree.specs.Generate.{generateOf, bufferOf, measureOf}
+use Rattle.operands.specs.Calls.{decodeOf, encodeOf}
+use Rattle.cost.specs.Cost.{cyclesOf}
+use Rattle.cost.specs.Recosted.{bare}
+use Rattle.cost.proofs.Free.{lookup-free, generate-free, buffer-free, measure-free, decode-free, encode-free}
+
+-- ---- an entry's cycles
+
+module _ (ws : List ℕ) (t : Table) (r : readTable ws ≡ result t) where
+  -- "begins with kind 6 in place of kind 1"
+  pub either-kind : (kindOf (word ws 0) ≡ 1) ⊎ (kindOf (word ws 0) ≡ 6)
+  unfolding tableCheck firstCheck
+  either-kind =
+      let k = need-true _ _ _ (then-l _ _ (then-r _ _ (then-r _ _ (then-l _ _ (read-is ws t r .0))))) in
+      cases (eqb (kindOf (word ws 0)) 1) (λ h. inl (eqb-true _ _ h)) (λ h. inr (eqb-true _ _ (or-e k h)))
+
+  module _ (e : ℕ) where
+    -- "11 for no such entry"
+    pub no-such-entry : (cyclesOf (readTable ws) e ≡ refused 11 0 0) ↔ (length (t .entries) ≤ e)
+    unfolding cyclesOf
+    no-such-entry =
+        (λ h. cases (ltb e (length (t .entries))) (λ l. absurd (let q = rw (r, l) at h in let z : _≡_ {A = ℕ} 0 1 = cc in omega arith)) (λ l. ltb-false _ _ l), λ h. rw (r, le-ltb e _ h))
+
+    module _ (h : e < length (t .entries)) where
+      few : e < countOf (word ws 0)
+      few =
+          let l = subst (λ x. e < length (x .entries)) (sym (read-is ws t r .1)) h in
+          omega (arith, length-entries ws (countOf (word ws 0)) 1, l)
+
+      cycles-are : cyclesOf (readTable ws) e ≡ result (cyclesAt ws (entryPlace ws e))
+      unfolding cyclesOf
+      cycles-are =
+          let n = countOf (word ws 0) in
+          rw r (subst (λ x. cyclesOf (result x) e ≡ result (cyclesAt ws (entryPlace ws e))) (read-is ws t r .1) (rw (length-entries ws n 1, lt-ltb e n few, entry-at ws (widthOf (word ws 0)) e n _ few)))
+
+      -- "Kind 1 tables are still read, with cycles 0."
+      pub kind-one : kindOf (word ws 0) ≡ 1 → cyclesOf (readTable ws) e ≡ result 0
+      unfolding cyclesAt hasCycles
+      kind-one k = cycles-are ∙ rw k
+
+      -- "has, after each entry's value word, a word with its cycles"
+      pub kind-six : kindOf (word ws 0) ≡ 6 → cyclesOf (readTable ws) e ≡ result (word ws (entryPlace ws e + 3))
+      unfolding cyclesAt hasCycles
+      kind-six k = cycles-are ∙ rw k
+
+      -- "0 to 65,535"
+      pub small : (n : ℕ) → cyclesOf (readTable ws) e ≡ result n → n ≤ 65535
+      unfolding tableCheck
+      small n q =
+          let l = entry-cost ws (widthOf (word ws 0)) _ (entry-check ws (widthOf (word ws 0)) e (countOf (word ws 0)) (then-r _ _ (read-is ws t r .0)) few) in
+          let c : result (cyclesAt ws (entryPlace ws e)) ≡ result n = sym cycles-are ∙ q in
+          let z : cyclesAt ws (entryPlace ws e) ≡ n = cc in
+          omega (arith, l)
+
+-- "after the table's faults"
+faulty-of : (o : Outcome Table) (e n p : ℕ) → (cyclesOf o e ≡ faulty n p) ↔ (o ≡ faulty n p)
+unfolding cyclesOf
+faulty-of (faulty a b) e n p = (λ h. cc, λ h. cc)
+faulty-of (refused a b w) e n p = (λ h. absurd (let z : _≡_ {A = ℕ} 0 1 = cc in omega arith), λ h. absurd (let z : _≡_ {A = ℕ} 0 1 = cc in omega arith))
+faulty-of (result t) e n p =
+    (λ h. absurd (cases (ltb e (length (t .entries))) (λ l. let q = rw l at h in let z : _≡_ {A = ℕ} 0 1 = cc in omega arith) (λ l. let q = rw l at h in let z : _≡_ {A = ℕ} 0 1 = cc in omega arith)), λ h. absurd (let z : _≡_ {A = ℕ} 0 1 = cc in omega arith))
+
+pub faulty-first : (ws : List ℕ) (e n p : ℕ) → (cyclesOf (readTable ws) e ≡ faulty n p) ↔ (readTable ws ≡ faulty n p)
+faulty-first ws e n p = faulty-of (readTable ws) e n p
+
+-- "Selection, tree and fields do not depend on cycles, so two tables that differ in cycles only have equal trees": two tables that read, of
+-- whatever kinds, are the same but for their cycles
+module _ (ws vs : List ℕ) (t u : Table) (r : readTable ws ≡ result t) (s : readTable vs ≡ result u) (d : bare t ≡ bare u) where
+  alike : {A : Type 0} (call : Outcome Table → A) → ((x : Table) → call (result (bare x)) ≡ call (result x)) → call (readTable ws) ≡ call (readTable vs)
+  alike call free = rw (r, s) (sym (free t) ∙ ap (λ (x : Table). call (result x)) d ∙ free u)
+
+  pub lookup-alike : (w : ℕ) → lookOf (readTable ws) w ≡ lookOf (readTable vs) w
+  lookup-alike w = alike (λ o. lookOf o w) (λ x. lookup-free x w)
+
+  -- the answer, and every word of the buffer
+  pub generate-alike : (room : ℕ) → generateOf (readTable ws) room ≡ generateOf (readTable vs) room
+  generate-alike room = alike (λ o. generateOf o room) (λ x. generate-free x room)
+
+  pub buffer-alike : (out : List ℕ) → bufferOf (readTable ws) out ≡ bufferOf (readTable vs) out
+  buffer-alike out = alike (λ o. bufferOf o out) (λ x. buffer-free x out)
+
+  pub measure-alike : measureOf (readTable ws) ≡ measureOf (readTable vs)
+  measure-alike = alike measureOf measure-free
+
+  -- the answer, with the values that are written
+  pub decode-alike : (w room : ℕ) → decodeOf (readTable ws) w room ≡ decodeOf (readTable vs) w room
+  decode-alike w room = alike (λ o. decodeOf o w room) (λ x. decode-free x w room)
+
+  pub encode-alike : (e : ℕ) (values : List ℕ) → encodeOf (readTable ws) e values ≡ encodeOf (readTable vs) e values
+  encode-alike e values = alike (λ o. encodeOf o e values) (λ x. encode-free x e values)

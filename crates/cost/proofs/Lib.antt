@@ -1,0 +1,5 @@
+pub mod Cases
+pub mod Answering
+pub mod Free
+pub mod Costs
+pub mod Examples
