@@ -21,7 +21,7 @@ enum-known-answer-2 : tie.Need-enum-known-answer-2
 enum-known-answer-2 c = search needs
 
 returns : tie.Need-returns
-returns c = cycles-none _ _ _ _ (good (c .before)) _ (c .if1 .taken)
+returns c = cycles-none _ _ _ _ (good (c .before)) _ (omega (arith, c .if1 .taken))
 
 mul-cycles-at : tie.Need-mul-cycles-at
 mul-cycles-at c = search needs
