@@ -46,7 +46,7 @@ def cases():
     yield "0-- and -00, ambiguous", examples.MORE_MASK_BITS
     yield "printed", examples.PRINTED + []
     yield "every kind", examples.EVERY_KIND
-    for name, plan, _, _ in hardest.cases(random.Random(hardest.SEED)):
+    for name, plan, _, _ in hardest.cases(random.Random(hardest.SEED), tables.PLAIN):
         yield name, tables.lay_out(plan).words
 
 

@@ -123,7 +123,7 @@ pub fn conditions_after(table: &[u32], p: usize, n: usize) -> usize
     if n < 1 {
         return p;
     }
-    p + 3 + 3 * followers(words::word_at(table, p))
+    p + (3 + 3 * followers(words::word_at(table, p)))
 }
 
 // Whether one of the n conditions from p on holds in the cell.
