@@ -34,10 +34,17 @@ def run_once(program, file):
     return taken, usage.ru_utime + usage.ru_stime
 
 
+def one_turn(runs, backwards):
+    """What run_once gives for each run."""
+    order = [*range(len(runs))][::-1 if backwards else 1]
+    taken = {at: run_once(runs[at][0], str(runs[at][1])) for at in order}
+    return [taken[at] for at in range(len(runs))]
+
+
 def take_turns(runs, repeats):
     """Times for each run, a program and its file. All of them run once in each turn, so that a slow minute of the machine meets
-    all of them and none has all its runs in it."""
-    taken = [[run_once(program, str(file)) for program, file in runs] for _ in range(repeats)]
+    all of them and none has all its runs in it. Every other turn goes backwards: what starts right after a long run is slower."""
+    taken = [one_turn(runs, backwards=turn % 2 == 1) for turn in range(repeats)]
     return [Times([turn[at][0] for turn in taken], [turn[at][1] for turn in taken]) for at in range(len(runs))]
 
 
