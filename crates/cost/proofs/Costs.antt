@@ -2,6 +2,7 @@
 --   `cost::cycles` answers `cyclesOf (readTable ws) e`; the other calls answer `lookOf`, `generateOf`, `measureOf`, `decodeOf`, `encodeOf` of
 --   `readTable ws`, and generating leaves `bufferOf (readTable ws) out`.
 --     either-kind, kind-one, kind-six, small     what an entry's cycles are
+--     over-is-two, missing-is-two     what they may not be
 --     no-such-entry, faulty-first     what is refused
 --     lookup-alike, generate-alike, buffer-alike, measure-alike, decode-alike, encode-alike     what does not depend on cycles
 use mathlib.Core.Path.{_≡_, sym, ap, _∙_, subst}
@@ -11,14 +12,14 @@ use Prim.Native.Nat.{ℕ, _+_, _≤_, _<_}
 use native.Mathlib.Omega.{arith}
 use lib.Dec.{eqb, ltb}
 use lib.ListN.{length}
-use borrow.Author.Tests.{lt-ltb, le-ltb, ltb-false, eqb-true}
+use borrow.Author.Tests.{lt-ltb, le-ltb, ltb-false, le-leb, lt-leb, eqb-true}
 use Rattle.words.specs.Words.{word}
 use Rattle.words.specs.Outcome.{Outcome, result, faulty, refused}
 use Rattle.words.proofs.Logic.{cases, or-e}
-use Rattle.table.specs.Table.{Table, kindOf, hasCycles, cyclesAt, entryPlace, countOf, widthOf}
-use Rattle.table.specs.Check.{firstCheck, tableCheck, readTable}
-use Rattle.table.proofs.Laws.{then-l, then-r, need-true, length-entries}
-use Rattle.table.proofs.Views.{read-is, entry-check, entry-at, entry-cost}
+use Rattle.table.specs.Table.{Table, kindOf, hasCycles, opcodePlace, cyclesAt, entryPlace, countOf, widthOf, sizeOf, ownBits}
+use Rattle.table.specs.Check.{fine, fault, firstCheck, headCheck, patternCheck, cyclesCheck, entryCheck, tableCheck, readTable}
+use Rattle.table.proofs.Laws.{checks, fine-then, fault-then, then-l, then-r, need-true, length-entries}
+use Rattle.table.proofs.Views.{read-is, entry-check, entry-stops, entry-at, entry-cost}
 use Rattle.selection.specs.Lookup.{lookOf}
 use Rattle.tree.specs.Generate.{generateOf, bufferOf, measureOf}
 use Rattle.operands.specs.Calls.{decodeOf, encodeOf}
@@ -73,6 +74,35 @@ module _ (ws : List ℕ) (t : Table) (r : readTable ws ≡ result t) where
           let c : result (cyclesAt ws (entryPlace ws e)) ≡ result n = sym cycles-are ∙ q in
           let z : cyclesAt ws (entryPlace ws e) ≡ n = cc in
           omega (arith, l)
+
+-- "upper bits zero, else number 2": of a table of kind 6 that is right up to the cycles of entry k, which are over 65,535, or are not there
+module _ (ws : List ℕ) (first : firstCheck ws ≡ fine) (six : kindOf (word ws 0) ≡ 6) (k : ℕ) (h : k < countOf (word ws 0)) where
+  abbrev place : ℕ
+  place = entryPlace ws k
+
+  abbrev width : ℕ
+  width = widthOf (word ws 0)
+
+  module _ (earlier : (i : ℕ) → i < k → entryCheck ws width (entryPlace ws i) ≡ fine) (head : headCheck ws width place ≡ fine)
+      (opcode : patternCheck ws (ownBits width (sizeOf (word ws place))) (opcodePlace ws place) ≡ fine) where
+    stops : (n p : ℕ) → cyclesCheck ws place ≡ fault n p → readTable ws ≡ faulty n p
+    unfolding tableCheck entryCheck
+    stops n p c =
+        let e : entryCheck ws width place ≡ fault n p = rw (head, fine-then, opcode, fine-then, c, fault-then) in
+        let t : tableCheck ws ≡ fault n p = rw (first, fine-then) (entry-stops ws width k _ n p earlier h e) in
+        rw t
+
+    pub over-is-two : place + 4 ≤ length ws → 65535 < word ws (place + 3) → readTable ws ≡ faulty 2 (place + 3)
+    unfolding cyclesCheck hasCycles
+    over-is-two l o =
+        let g : place + 3 + 1 ≤ length ws = omega arith in
+        stops 2 (place + 3) (rw six (simp (le-leb _ _ g, lt-leb _ _ o, checks)))
+
+    pub missing-is-two : length ws ≤ place + 3 → readTable ws ≡ faulty 2 (length ws)
+    unfolding cyclesCheck hasCycles
+    missing-is-two l =
+        let g : length ws < place + 3 + 1 = omega arith in
+        stops 2 (length ws) (rw six (simp (lt-leb _ _ g, checks)))
 
 -- "after the table's faults"
 faulty-of : (o : Outcome Table) (e n p : ℕ) → (cyclesOf o e ≡ faulty n p) ↔ (o ≡ faulty n p)

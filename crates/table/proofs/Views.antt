@@ -16,7 +16,7 @@ use Rattle.table.specs.Ready.{Ready}
 use Rattle.table.specs.Answer.{Shape, shapeOf, said, Reads}
 use Rattle.table.specs.declared.Answer.the-variants.{Accepted, Refused}
 use Rattle.table.specs.declared.Reading.{Reading}
-use Rattle.table.proofs.Laws.{then-l, then-r, need-true, pattern-fits, unmatching-fits, fields-fit, head-fits, cycles-fit, first-some, first-short, first-count, first-wide, first-width, accepts-places, accepts}
+use Rattle.table.proofs.Laws.{fine-then, fault-then, then-l, then-r, need-true, pattern-fits, unmatching-fits, fields-fit, head-fits, cycles-fit, first-some, first-short, first-count, first-wide, first-width, accepts-places, accepts}
 
 -- ---- patterns and conditions, one by one
 
@@ -108,6 +108,16 @@ module _ (ws : List ℕ) (width : ℕ) where
       let g : suc j + k ≡ j + suc k = omega arith in
       rw g at (check-from k n (suc j) (then-r _ _ e) (omega arith))
 
+  stop-from : (k n j a b : ℕ) → ((i : ℕ) → i < k → entryCheck ws width (entryPlace ws (j + i)) ≡ fine) → k < n → entryCheck ws width (entryPlace ws (j + k)) ≡ fault a b
+      → entriesCheck ws width n (entryPlace ws j) ≡ fault a b
+  unfolding entriesCheck entryPlace
+  stop-from k zero j a b f h e = absurd (omega arith)
+  stop-from zero (suc n) j a b f h e = rw (rw add-zero at e, fault-then)
+  stop-from (suc k) (suc n) j a b f h e =
+      let g : (i : ℕ) → j + suc i ≡ suc j + i = λ i. omega arith in
+      let first : entryCheck ws width (entryPlace ws j) ≡ fine = rw add-zero at (f 0 (omega arith)) in
+      rw (first, fine-then) (stop-from k n (suc j) a b (λ i l. rw (g i) at (f (suc i) (omega arith))) (omega arith) (rw (g k) at e))
+
   entry-from : (k n j : ℕ) (d : Entry) → k < n → getD (entriesAt ws n (entryPlace ws j)) k d ≡ entryAt ws (entryPlace ws (j + k))
   unfolding entriesAt entryPlace
   entry-from zero zero j d h = absurd (omega arith)
@@ -121,6 +131,14 @@ module _ (ws : List ℕ) (width : ℕ) where
   pub entry-check : (k n : ℕ) → entriesCheck ws width n 1 ≡ fine → k < n → entryCheck ws width (entryPlace ws k) ≡ fine
   unfolding entryPlace
   entry-check k n e h = rw zero-add at (check-from k n 0 e h)
+
+  -- the first entry with a fault is the table's
+  pub entry-stops : (k n a b : ℕ) → ((i : ℕ) → i < k → entryCheck ws width (entryPlace ws i) ≡ fine) → k < n → entryCheck ws width (entryPlace ws k) ≡ fault a b
+      → entriesCheck ws width n 1 ≡ fault a b
+  unfolding entryPlace
+  entry-stops k n a b f h e =
+      let g : (i : ℕ) → i ≡ 0 + i = λ i. omega arith in
+      stop-from k n 0 a b (λ i l. rw (g i) at (f i l)) h (rw (g k) at e)
 
   pub entry-at : (k n : ℕ) (d : Entry) → k < n → getD (entriesAt ws n 1) k d ≡ entryAt ws (entryPlace ws k)
   unfolding entryPlace
