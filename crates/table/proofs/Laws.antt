@@ -50,10 +50,6 @@ step-of-fault n p q = refl
 
 pub ruleset checks = (need-yes, need-no, fine-then, fault-then, step-of-fine, step-of-fault)
 
--- a step to the same place
-pub step-to : (r : Step) (v : Check) (q q′ : ℕ) → r ≡ step v q → q ≡ q′ → r ≡ step v q′
-step-to r v q q′ e h = e ∙ ap (step v) h
-
 -- a callee's fault is the first fault of what begins with its check
 pub step-fault : (v w : Check) (q q′ n p : ℕ) → step v q ≡ Fault n p → Fault n p ≡ step (v then w) q′
 unfolding step _then_
@@ -65,10 +61,6 @@ pub step-next : (v w : Check) (q q′ n : ℕ) → step v q ≡ Next n → step 
 unfolding step _then_
 step-next fine w q q′ n e = refl
 step-next (fault a b) w q q′ n e = absurd (let z : _≡_ {A = ℕ} 0 1 = cc in omega arith)
-
--- the same for the answer of a callee that does the rest
-pub step-on : (v w : Check) (q q′ r n : ℕ) (s : Step) → step v q ≡ Next n → r ≡ q′ → s ≡ step w r → s ≡ step (v then w) q′
-step-on v w q q′ r n s e h t = t ∙ ap (step w) h ∙ sym (step-next v w q q′ n e)
 
 pub next-fine : (v : Check) (q n : ℕ) → step v q ≡ Next n → v ≡ fine
 unfolding step
@@ -248,18 +240,13 @@ conditions-fit ws own (suc n) p h t = conditions-fit ws own n (conditionEnd ws p
 
 -- ---- an entry
 
--- its fields stand soon after its place, and its cycles, without fault, before them
-module _ (ws : List ℕ) (p : ℕ) where
-  pub fields-near : fieldsPlace ws p ≤ p + 4
-  unfolding fieldsPlace
-  fields-near = cases (hasCycles ws) (λ t. rw t (omega arith)) (λ t. rw t (omega arith))
-
-  pub cycles-fit : p + 3 ≤ length ws → cyclesCheck ws p ≡ fine → fieldsPlace ws p ≤ length ws
-  unfolding fieldsPlace cyclesCheck
-  cycles-fit h e =
-      cases (hasCycles ws)
-      (λ t. rw t (omega (arith, has-fits ws (p + 3) 1 (then-l _ _ (rw t at e)))))
-      (λ t. rw t h)
+-- its cycles, without fault, stand in the table, if its value word does
+pub cycles-fit : (ws : List ℕ) (p : ℕ) → p + 3 ≤ length ws → cyclesCheck ws p ≡ fine → fieldsPlace ws p ≤ length ws
+unfolding fieldsPlace cyclesCheck
+cycles-fit ws p h e =
+    cases (hasCycles ws)
+    (λ t. rw t (omega (arith, has-fits ws (p + 3) 1 (then-l _ _ (rw t at e)))))
+    (λ t. rw t h)
 
 module _ (ws : List ℕ) (width p : ℕ) where
   pub head-fits : headCheck ws width p ≡ fine → p + 1 ≤ length ws

@@ -1,54 +1,21 @@
--- What callers rely on, of a table without fault: from a place and a count, the item at hand and the rest. Assumes nothing.
+-- What callers rely on, of a table without fault: its entries by their numbers and places, and what the reader's answer tells. Assumes nothing.
 use mathlib.Core.Path.{_≡_, refl, sym, ap, _∙_}
 use mathlib.Core.List.{List}
-use Prim.Native.Nat.{ℕ, zero, suc, _+_, _-_, _≤_, _<_}
+use Prim.Native.Nat.{ℕ, zero, suc, _+_, _≤_, _<_}
 use native.Mathlib.Nat.{add-zero, zero-add}
-use native.Mathlib.Numerals.{sub-one}
 use native.Mathlib.Omega.{arith}
 use lib.ListN.{length, getD}
 use borrow.Author.Tests.{leb-true, lt-ltb}
 use Rattle.words.specs.Words.{word}
 use Rattle.words.specs.Outcome.{result, faulty}
 use Rattle.words.proofs.Logic.{cases}
-use Rattle.table.specs.Table.{Table, Entry, widthOf, countOf, sizeOf, fieldsOf, conditionsOf, unmatchingOf, conditionEnd, hasCycles, opcodePlace, fieldsPlace, conditionsPlace, cyclesAt, entryAt, entriesAt, entryPlace, tableOf, ownBits}
-use Rattle.table.specs.Check.{Check, fine, fault, reading, readTable, tableCheck, firstCheck, unmatchingsCheck, conditionCheck, conditionsCheck, fieldsCheck, headCheck, cyclesCheck, entryCheck, entriesCheck}
+use Rattle.table.specs.Table.{Table, Entry, widthOf, countOf, sizeOf, fieldsOf, hasCycles, opcodePlace, fieldsPlace, cyclesAt, entryAt, entriesAt, entryPlace, tableOf}
+use Rattle.table.specs.Check.{Check, fine, fault, reading, readTable, tableCheck, firstCheck, fieldsCheck, headCheck, cyclesCheck, entryCheck, entriesCheck}
 use Rattle.table.specs.Ready.{Ready}
 use Rattle.table.specs.Answer.{Shape, shapeOf, said, Reads}
 use Rattle.table.specs.declared.Answer.the-variants.{Accepted, Refused}
 use Rattle.table.specs.declared.Reading.{Reading}
-use Rattle.table.proofs.Laws.{fine-then, fault-then, then-l, then-r, need-true, pattern-fits, unmatching-fits, fields-fit, head-fits, cycles-fit, first-some, first-short, first-count, first-wide, first-width, accepts-places, accepts}
-
--- ---- patterns and conditions, one by one
-
-module _ (ws : List ℕ) (own : ℕ) where
-  pub unmatching-here : (n p : ℕ) → 0 < n → unmatchingsCheck ws own n p ≡ fine → p + 3 ≤ length ws
-  unfolding unmatchingsCheck
-  unmatching-here zero p h e = absurd (omega arith)
-  unmatching-here (suc n) p h e = unmatching-fits ws own p (then-l _ _ e)
-
-  pub unmatching-rest : (n p : ℕ) → 0 < n → unmatchingsCheck ws own n p ≡ fine → unmatchingsCheck ws own (n - 1) (p + 3) ≡ fine
-  unfolding unmatchingsCheck
-  unmatching-rest zero p h e = absurd (omega arith)
-  unmatching-rest (suc n) p h e = rw (sub-one (suc n)) (then-r _ _ e)
-
-  pub condition-here : (n p : ℕ) → 0 < n → conditionsCheck ws own n p ≡ fine → conditionCheck ws own p ≡ fine
-  unfolding conditionsCheck
-  condition-here zero p h e = absurd (omega arith)
-  condition-here (suc n) p h e = then-l _ _ e
-
-  pub condition-rest : (n p : ℕ) → 0 < n → conditionsCheck ws own n p ≡ fine → conditionsCheck ws own (n - 1) (conditionEnd ws p) ≡ fine
-  unfolding conditionsCheck
-  condition-rest zero p h e = absurd (omega arith)
-  condition-rest (suc n) p h e = rw (sub-one (suc n)) (then-r _ _ e)
-
-  -- the patterns of a condition
-  pub condition-patterns : (p : ℕ) → conditionCheck ws own p ≡ fine → unmatchingsCheck ws own (unmatchingOf (word ws p)) (p + 3) ≡ fine
-  unfolding conditionCheck
-  condition-patterns p e = then-r _ _ (then-r _ _ (then-r _ _ (then-r _ _ (then-r _ _ e))))
-
-  pub condition-matching : (p : ℕ) → conditionCheck ws own p ≡ fine → p + 1 + 2 ≤ length ws
-  unfolding conditionCheck
-  condition-matching p e = pattern-fits ws own (p + 1) (then-l _ _ (then-r _ _ (then-r _ _ (then-r _ _ (then-r _ _ e)))))
+use Rattle.table.proofs.Laws.{fine-then, fault-then, then-l, then-r, need-true, head-fits, first-short, first-count, first-width, accepts-places, accepts}
 
 -- ---- an entry without fault
 
@@ -59,10 +26,6 @@ module _ (ws : List ℕ) (width p : ℕ) (e : entryCheck ws width p ≡ fine) wh
 
   pub entry-here : p + 1 ≤ length ws
   entry-here = head-fits ws width p entry-head
-
-  pub entry-opcode : opcodePlace ws p + 2 ≤ length ws
-  unfolding entryCheck
-  entry-opcode = pattern-fits ws _ (opcodePlace ws p) (then-l _ _ (then-r _ _ e))
 
   pub entry-field-check : fieldsCheck ws p width (sizeOf (word ws p)) (word ws (opcodePlace ws p)) (fieldsOf (word ws p)) (fieldsPlace ws p) ≡ fine
   unfolding entryCheck
@@ -80,21 +43,9 @@ module _ (ws : List ℕ) (width p : ℕ) (e : entryCheck ws width p ≡ fine) wh
       (λ t. rw t (leb-true _ _ (need-true _ _ _ (then-r _ _ (rw t at entry-cycles)))))
       (λ t. rw t (omega arith))
 
-  pub entry-fields : conditionsPlace ws p ≤ length ws
-  entry-fields =
-      fields-fit ws p width (sizeOf (word ws p)) (word ws (opcodePlace ws p)) _ (fieldsPlace ws p) (cycles-fit ws p (omega (arith, entry-opcode)) entry-cycles) entry-field-check
-
-  pub entry-conditions : conditionsCheck ws (ownBits width (sizeOf (word ws p))) (conditionsOf (word ws p)) (conditionsPlace ws p) ≡ fine
-  unfolding entryCheck
-  entry-conditions = then-r _ _ (then-r _ _ (then-r _ _ (then-r _ _ e)))
-
   pub entry-few-fields : fieldsOf (word ws p) ≤ 8
   unfolding headCheck
   entry-few-fields = leb-true _ _ (need-true _ _ _ (then-l _ _ (then-r _ _ (then-r _ _ (then-r _ _ (then-r _ _ entry-head))))))
-
-  pub entry-few-conditions : conditionsOf (word ws p) ≤ 8
-  unfolding headCheck
-  entry-few-conditions = leb-true _ _ (need-true _ _ _ (then-r _ _ (then-r _ _ (then-r _ _ (then-r _ _ (then-r _ _ entry-head))))))
 
 -- ---- entry k, by its place
 
@@ -167,9 +118,6 @@ module _ (ws places : List ℕ) (width count : ℕ) (r : Ready ws places width c
   pub ready-read : readTable ws ≡ result (record { width = width; entries = entriesAt ws count 1 })
   ready-read = rw (r .good, r .wide, r .number)
 
-  pub ready-some : 1 ≤ length ws
-  ready-some = first-some ws first-fine
-
   pub ready-short : length ws ≤ 16384
   ready-short = first-short ws first-fine
 
@@ -178,9 +126,6 @@ module _ (ws places : List ℕ) (width count : ℕ) (r : Ready ws places width c
 
   pub ready-wide : width ≤ 32
   ready-wide = rw (r .wide) (first-width ws first-fine)
-
-  pub ready-not-empty : 1 ≤ width
-  ready-not-empty = rw (r .wide) (first-wide ws first-fine)
 
   -- entry k stands at its place in the array, without fault
   module _ (k : ℕ) (h : k < count) where
