@@ -36,7 +36,7 @@ returns-2 : tie.Need-returns-2
 returns-2 c = cycles-faulty _ _ _ _ (reading-faulty _ _ (c .before .before .before .before .read .ensures) _ _ (c .before .answer .given .1))
 
 returns-3 : tie.Need-returns-3
-returns-3 c = cycles-here _ _ _ _ (good (c .before .before)) _ _ (c .cycles-at .ensures) (c .before .if1 .left)
+returns-3 c = cycles-here _ _ _ _ (good (c .before .before)) (c .before .before .before .before .before .before .before .before .args .entry) _ (c .cycles-at .ensures) (c .before .if1 .left)
 
 pub cycles-spec : {M : Type 1} → statement M
 cycles-spec =
