@@ -4,7 +4,6 @@ use words::Cause;
 ghost use mathlib.Core.Path.{_≡_};
 ghost use Prim.Native.Nat.{ℕ};
 ghost use Rattle.words.specs.Outcome.{causeOf};
-ghost use Rattle.table.specs.Table.{cyclesAt};
 ghost use Rattle.table.specs.Check.{readTable};
 ghost use Rattle.cost.specs.Cost.{cyclesOf, said};
 
@@ -28,16 +27,6 @@ impl Costed {
     }
 }
 
-// The cycles of the entry at p.
-fn cycles_at(ws: &[u32], p: u32) -> u32
-    ensures { λ r. ⌜ r ≡ cyclesAt (now (ws .entry)) p ⌝ }
-{
-    if !table::has_cycles(ws) {
-        return 0;
-    }
-    words::word_at(ws, p as usize + 3)
-}
-
 // The cycles of an entry of a table.
 pub fn cycles(ws: &[u32], entry: u32) -> Costed
     ensures { λ r. ⌜ said r ≡ cyclesOf (readTable (now (ws .entry))) entry ⌝ }
@@ -52,7 +41,7 @@ pub fn cycles(ws: &[u32], entry: u32) -> Costed
                 return Costed::NoEntry;
             }
             let e = entry as usize;
-            let cost = cycles_at(ws, places[e]);
+            let cost = table::cycles_at(ws, places[e]);
             Costed::Cycles(cost)
         }
     }

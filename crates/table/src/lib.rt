@@ -4,7 +4,7 @@ ghost use mathlib.Core.Path.{_≡_};
 ghost use Prim.Native.Nat.{ℕ, _+_, _*_, _≤_, _<_, _^_};
 ghost use lib.ListN.{length, getD};
 ghost use Rattle.words.specs.Outcome.{causeOf};
-ghost use Rattle.table.specs.Table.{fieldLow, fieldWidth, fieldBits, ownBits, conditionEnd, conditionsEnd, hasCycles, fieldsPlace, conditionsPlace, entryEnd};
+ghost use Rattle.table.specs.Table.{fieldLow, fieldWidth, fieldBits, ownBits, conditionEnd, conditionsEnd, hasCycles, cyclesAt, fieldsPlace, conditionsPlace, entryEnd};
 ghost use Rattle.table.specs.Check.{fine, patternCheck, unmatchingCheck, unmatchingsCheck, conditionCheck, conditionsCheck, fieldRule, fieldCheck, fieldsCheck, headCheck, cyclesCheck, entryCheck, entriesCheck, firstCheck, readTable};
 ghost use Rattle.table.specs.Answer.{step, said, AllPlaced, Refusal, Reads};
 
@@ -230,7 +230,7 @@ fn head(ws: &[u32], width: u32, p: usize) -> Step
 }
 
 // Whether the entries of a table have a cycles word each: its first word is of kind 6.
-pub fn has_cycles(ws: &[u32]) -> bool
+fn has_cycles(ws: &[u32]) -> bool
     ensures { λ r. ⌜ r ≡ hasCycles (now (ws .entry)) ⌝ }
 {
     words::part(words::word_at(ws, 0), 28, 4) == 6
@@ -250,6 +250,16 @@ pub fn conditions_at(ws: &[u32], p: u32) -> usize
 {
     let fields = words::part(words::word_at(ws, p as usize), 4, 4);
     fields_at(ws, p) + fields as usize
+}
+
+// The cycles of the entry at p; 0 in a table without them.
+pub fn cycles_at(ws: &[u32], p: u32) -> u32
+    ensures { λ r. ⌜ r ≡ cyclesAt (now (ws .entry)) p ⌝ }
+{
+    if !has_cycles(ws) {
+        return 0;
+    }
+    words::word_at(ws, p as usize + 3)
 }
 
 // The cycles word of an entry at p, where the table has them; on to the fields.

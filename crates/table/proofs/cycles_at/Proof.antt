@@ -1,9 +1,9 @@
 use Rattle.table.specs.Table.{cyclesAt}
 use borrow.Author.Tests.{not-true, not-false}
 use mathlib.Core.Path.{sym, _∙_}
 use borrow.Author.Needs.{needs}
-use Rattle.cost.proofs.cycles_at.Statement.{statement}
-use Rattle.cost.proofs.cycles_at.Tie as tie
+use Rattle.table.proofs.cycles_at.Statement.{statement}
+use Rattle.table.proofs.cycles_at.Tie as tie
 
 has-cycles-requires : tie.Need-has-cycles-requires
 has-cycles-requires c κs = search needs
