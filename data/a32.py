@@ -19,6 +19,9 @@ both SWP and SWPB.
 
 Letters: c cond, S sets flags, n d t m a registers Rn Rd Rt Rm Ra, o shifter operand or offset, i immediate, P U W
 addressing, r list.
+
+The 24 bits of B, BL and BLX count words from the instruction after the next, in two's complement. No other field has a sign: an offset
+is added or subtracted by U.
 """
 
 from patterns import InstructionSet, Unless, listed
@@ -216,8 +219,8 @@ BLOCK_AND_BRANCH = listed("""
     STM user    cccc 100P U100 nnnn rrrr rrrr rrrr rrrr
     LDM user    cccc 100P U101 nnnn 0rrr rrrr rrrr rrrr
     LDM return  cccc 100P U1W1 nnnn 1rrr rrrr rrrr rrrr
-    B           cccc 1010 iiii iiii iiii iiii iiii iiii
-    BL          cccc 1011 iiii iiii iiii iiii iiii iiii
+    B           cccc 1010 iiii iiii iiii iiii iiii iiii : i signed
+    BL          cccc 1011 iiii iiii iiii iiii iiii iiii : i signed
     SVC         cccc 1111 iiii iiii iiii iiii iiii iiii
 """, NEVER)
 
@@ -236,7 +239,7 @@ COPROCESSOR = listed("""
 """, NEVER, VECTOR)
 
 UNCONDITIONAL = listed("""
-    BLX         1111 101H iiii iiii iiii iiii iiii iiii
+    BLX         1111 101H iiii iiii iiii iiii iiii iiii : i signed
     CPS         1111 0001 0000 iiM0 0000 000A IF0m mmmm
     SETEND      1111 0001 0000 0001 0000 00E0 0000 0000
     PLI         1111 0100 U101 nnnn 1111 iiii iiii iiii

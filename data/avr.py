@@ -8,6 +8,9 @@ lister has it.
 No alias is listed, because an alias is an encoding that is already here: LSL (ADD), ROL (ADC), TST (AND), CLR (EOR), SER
 (LDI), SBR (ORI), CBR (ANDI), BREQ and the other named branches (BRBS, BRBC), SEC.. and CLC.. (BSET, BCLR), LD Rd,Y and LD
 Rd,Z (LDD with displacement 0), ST Y and ST Z (STD). No two patterns overlap.
+
+The k of relative jumps, calls and branches counts words from the next instruction, in two's complement. The other constants are plain:
+K and q count from zero, and the k of JMP, CALL, LDS and STS is an address.
 """
 
 from patterns import InstructionSet, listed
@@ -101,11 +104,11 @@ INSTRUCTIONS = listed("""
     MUL         1001 11rd dddd rrrr
     IN          1011 0AAd dddd AAAA
     OUT         1011 1AAr rrrr AAAA
-    RJMP        1100 kkkk kkkk kkkk
-    RCALL       1101 kkkk kkkk kkkk
+    RJMP        1100 kkkk kkkk kkkk : k signed
+    RCALL       1101 kkkk kkkk kkkk : k signed
     LDI         1110 KKKK dddd KKKK
-    BRBS        1111 00kk kkkk ksss
-    BRBC        1111 01kk kkkk ksss
+    BRBS        1111 00kk kkkk ksss : k signed
+    BRBC        1111 01kk kkkk ksss : k signed
     BLD         1111 100d dddd 0bbb
     BST         1111 101d dddd 0bbb
     SBRC        1111 110r rrrr 0bbb

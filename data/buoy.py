@@ -18,6 +18,10 @@ Version 4, after the storm. SLEEP 0 slept forever and cost us a buoy: no entry c
     this is the one word that was ever taken back. DOZE (wake by waves) takes the sleeps of 240 to 254 ticks, which no
     program has, by being more specific; it leaves SLEEP 255, the long night of version 1.
 
+Offsets and gains of the controller have a sign. BRANCH and CALL count halfwords from the next instruction, back or on; SET, SET LONG and
+COMPARE take numbers below zero, as the sea's temperature may be; FILTER's k is the gain of a filter, with twelve bits after its point:
+-8 up to 7.999755859375. The offsets of LOAD and STORE and all addresses count from zero.
+
 Since the storm each buoy keeps an account of its battery, so the list has cycles: beats of the core's clock while it is awake, each of
 which takes the same charge. Falling asleep and waking up are counted, the sleep between them is not. SEND, RECEIVE and SAMPLE have what
 the usual message or row of readings takes of the core; radio and sensors have accounts of their own.
@@ -40,13 +44,13 @@ VERSION_1 = (
     MASK      0011 dddd ssss tttt = 1
     """, CLOCK)
     + listed("""
-    SET       0100 dddd iiii iiii = 1
+    SET       0100 dddd iiii iiii : i signed = 1
     READ      0101 dddd pppp pppp = 3
     WRITE     0110 ssss pppp pppp = 3
     LOAD      0111 dddd ssss oooo = 2
     STORE     1000 dddd ssss oooo = 2
-    BRANCH    1001 cccc oooo oooo = 2
-    CALL      1010 oooo oooo oooo = 3
+    BRANCH    1001 cccc oooo oooo : o signed = 2
+    CALL      1010 oooo oooo oooo : o signed = 3
     RETURN    1011 0000 0000 0000 = 3
     """)
     + listed("SLEEP     1011 0001 tttt tttt = 12", NO_SLEEP))
@@ -57,7 +61,7 @@ VERSION_2 = (
     LAMP      1001 1111 llll pppp = 5
     LAMP OFF  1001 1111 llll 0000 = 3
     SHIFT     1100 dddd ssss tttt = 1
-    COMPARE   1101 dddd iiii iiii = 1
+    COMPARE   1101 dddd iiii iiii : i signed = 1
     """))
 
 VERSION_3 = (
@@ -66,8 +70,8 @@ VERSION_3 = (
     SEND      1110 0000 dddd ssss aaaa aaaa aaaa aaaa = 620
     RECEIVE   1110 0001 dddd ssss aaaa aaaa aaaa aaaa = 480
     FAR CALL  1110 0010 aaaa aaaa aaaa aaaa aaaa aaaa = 4
-    SET LONG  1110 0011 0000 dddd iiii iiii iiii iiii = 2
-    FILTER    1110 01ww dddd ssss kkkk kkkk kkkk kkkk = 18
+    SET LONG  1110 0011 0000 dddd iiii iiii iiii iiii : i signed = 2
+    FILTER    1110 01ww dddd ssss kkkk kkkk kkkk kkkk : k point 12 = 18
     STOP      1110 1ppp pppp dddd 0000 0000 0000 0000 = 6
     STOP ALL  1110 1111 1111 dddd 0000 0000 0000 0000 = 40
     """)

@@ -4,7 +4,11 @@ A pattern is written high bit first. 0 and 1 are opcode bits, a letter is a bit 
 side with the same letter are one field, so a field that the encoding splits comes out as two. Fields stand in the table from
 the high bits down. In a condition - is a bit outside the mask, and bits left out at the low end are outside it too.
 
-"= 3" after a pattern says that the instruction takes 3 cycles (document 02, No. 3). A set has cycles for all of its instructions or for
+A colon after a pattern gives fields a form (document 02, No. 7): ": o signed, k point 12" says that the field of o is in two's
+complement, and that k is too, with 12 bits after its point. A letter that is named so has one field in the pattern, since a field that
+the encoding splits has no number of its own. All other fields are plain.
+
+"= 3" at the end says that the instruction takes 3 cycles (document 02, No. 3). A set has cycles for all of its instructions or for
 none: with them its table is of kind 6, without them of kind 1.
 """
 
@@ -16,6 +20,8 @@ MOST_FIELDS = MOST_CONDITIONS = MOST_UNMATCHING = 8
 MOST_ENTRIES = 256
 MOST_WORDS = 16384
 MOST_CYCLES = 65535
+MOST_FRACTION = 16
+PLAIN, SIGNED, POINT = 0, 1, 2      # the forms of a field
 
 
 @dataclass(frozen=True)
@@ -26,11 +32,20 @@ class Unless:
 
 
 @dataclass(frozen=True)
+class Form:
+    """The form of the field that a letter stands for."""
+    letter: str
+    form: int
+    fraction: int = 0
+
+
+@dataclass(frozen=True)
 class Instruction:
     mnemonic: str
     pattern: str
     conditions: tuple = ()
     cycles: int = None
+    forms: tuple = ()
 
 
 @dataclass(frozen=True)
@@ -48,16 +63,27 @@ class InstructionSet:
         return with_cycles > 0
 
 
+def form_of(text):
+    """What "o signed" or "k point 12" says."""
+    if found := re.fullmatch(r"\s*([A-Za-z]) signed\s*", text):
+        return Form(found[1], SIGNED)
+    if found := re.fullmatch(r"\s*([A-Za-z]) point (\d+)\s*", text):
+        return Form(found[1], POINT, int(found[2]))
+    raise ValueError(f"{text!r} is no form")
+
+
 def listed(text, *conditions):
-    """One instruction a line: the mnemonic, at least two blanks, the pattern, and with cycles = and their number; what follows # is a
-    note."""
+    """One instruction a line: the mnemonic, at least two blanks, the pattern, with forms : and these, and with cycles = and their number;
+    what follows # is a note."""
     instructions = []
     for line in text.splitlines():
         line = line.partition("#")[0].strip()
         if line:
             mnemonic, rest = re.split("  +", line, maxsplit=1)
-            pattern, equals, cycles = rest.partition("=")
-            instructions.append(Instruction(mnemonic, pattern.replace(" ", ""), conditions, int(cycles) if equals else None))
+            rest, equals, cycles = rest.partition("=")
+            pattern, colon, forms = rest.partition(":")
+            instructions.append(Instruction(mnemonic, pattern.replace(" ", ""), conditions, int(cycles) if equals else None,
+                                            tuple(form_of(form) for form in forms.split(",")) if colon else ()))
     return instructions
 
 
@@ -87,14 +113,28 @@ def limited(number, most):
     return number
 
 
+def forms_of(instruction):
+    """The Form of each field, in their order."""
+    letters = re.findall(r"([A-Za-z])\1*", instruction.pattern)
+    named = {form.letter: form for form in instruction.forms}
+    if len(named) < len(instruction.forms) or any(letters.count(letter) != 1 for letter in named):
+        raise ValueError(f"{instruction.mnemonic}: a form is for a letter that stands for one field, and is there once")
+    return [named.get(letter, Form(letter, PLAIN)) for letter in letters]
+
+
+def field_words(instruction, width):
+    return [3 << 28 | form.form << 24 | limited(form.fraction, min(MOST_FRACTION, size)) << 16 | lowest << 8 | size
+            for form, (lowest, size) in zip(forms_of(instruction), fields_of(instruction.pattern, width), strict=True)]
+
+
 def entry_words(instruction, label, width):
     pattern = instruction.pattern
-    fields = fields_of(pattern, width)
+    fields = field_words(instruction, width)
     conditions = instruction.conditions
     words = [2 << 28 | label << 16 | len(pattern) << 8 | limited(len(fields), MOST_FIELDS) << 4
              | limited(len(conditions), MOST_CONDITIONS), *mask_and_value(pattern, width)]
     words += [] if instruction.cycles is None else [limited(instruction.cycles, MOST_CYCLES)]
-    words += [3 << 28 | lowest << 8 | size for lowest, size in fields]
+    words += fields
     for condition in conditions:
         words += condition_words(condition, width)
     return words

@@ -9,6 +9,11 @@ of its instructions.
 Letters: d rd, s rs1, t rs2, u rs3, i immediate or offset, h shift amount, m rounding mode, a aq and rl, c CSR, f p n of
 FENCE. The encodings are those of RV64 (shift amounts of six bits; REV8 and ZEXT.H as RV64 has them).
 
+Signed are the immediates and offsets that the encoding has in one piece: the 12 bits of loads, JALR and ADDI .. ANDI, ADDIW (SLTIU's are
+sign-extended too, before it compares without a sign), the 20 bits of LUI and AUIPC, which count steps of 4096, and the 7 bits of
+PREFETCH, which count steps of 32. Those of branches, JAL and stores are in pieces or out of order, so they are plain, piece by piece.
+Shift amounts, CSRs and CSRRWI's number have no sign.
+
 Special cases that the most-specific rule resolves: FENCE.TSO and PAUSE in FENCE, ZEXT.H in PACKW, PREFETCH.I, .R and .W in
 ORI. A reserved rounding mode (5, 6) is a matter of the field m: the manual lists each instruction once, for every m.
 Assemblers' names for special cases are left out: NOP, LI, MV, NOT, NEG, SEXT.W, ZEXT.W, RET, J, JR, BEQZ, CSRR, FMV.S,
@@ -18,33 +23,33 @@ FABS.S, FNEG.S ..
 from patterns import InstructionSet, listed
 
 BASE = listed("""
-    LUI         iiiiiiiiiiiiiiiiiiii ddddd 0110111
-    AUIPC       iiiiiiiiiiiiiiiiiiii ddddd 0010111
+    LUI         iiiiiiiiiiiiiiiiiiii ddddd 0110111 : i signed
+    AUIPC       iiiiiiiiiiiiiiiiiiii ddddd 0010111 : i signed
     JAL         iiiiiiiiiiiiiiiiiiii ddddd 1101111
-    JALR        iiiiiiiiiiii sssss 000 ddddd 1100111
+    JALR        iiiiiiiiiiii sssss 000 ddddd 1100111 : i signed
     BEQ         iiiiiii ttttt sssss 000 iiiii 1100011
     BNE         iiiiiii ttttt sssss 001 iiiii 1100011
     BLT         iiiiiii ttttt sssss 100 iiiii 1100011
     BGE         iiiiiii ttttt sssss 101 iiiii 1100011
     BLTU        iiiiiii ttttt sssss 110 iiiii 1100011
     BGEU        iiiiiii ttttt sssss 111 iiiii 1100011
-    LB          iiiiiiiiiiii sssss 000 ddddd 0000011
-    LH          iiiiiiiiiiii sssss 001 ddddd 0000011
-    LW          iiiiiiiiiiii sssss 010 ddddd 0000011
-    LD          iiiiiiiiiiii sssss 011 ddddd 0000011
-    LBU         iiiiiiiiiiii sssss 100 ddddd 0000011
-    LHU         iiiiiiiiiiii sssss 101 ddddd 0000011
-    LWU         iiiiiiiiiiii sssss 110 ddddd 0000011
+    LB          iiiiiiiiiiii sssss 000 ddddd 0000011 : i signed
+    LH          iiiiiiiiiiii sssss 001 ddddd 0000011 : i signed
+    LW          iiiiiiiiiiii sssss 010 ddddd 0000011 : i signed
+    LD          iiiiiiiiiiii sssss 011 ddddd 0000011 : i signed
+    LBU         iiiiiiiiiiii sssss 100 ddddd 0000011 : i signed
+    LHU         iiiiiiiiiiii sssss 101 ddddd 0000011 : i signed
+    LWU         iiiiiiiiiiii sssss 110 ddddd 0000011 : i signed
     SB          iiiiiii ttttt sssss 000 iiiii 0100011
     SH          iiiiiii ttttt sssss 001 iiiii 0100011
     SW          iiiiiii ttttt sssss 010 iiiii 0100011
     SD          iiiiiii ttttt sssss 011 iiiii 0100011
-    ADDI        iiiiiiiiiiii sssss 000 ddddd 0010011
-    SLTI        iiiiiiiiiiii sssss 010 ddddd 0010011
-    SLTIU       iiiiiiiiiiii sssss 011 ddddd 0010011
-    XORI        iiiiiiiiiiii sssss 100 ddddd 0010011
-    ORI         iiiiiiiiiiii sssss 110 ddddd 0010011
-    ANDI        iiiiiiiiiiii sssss 111 ddddd 0010011
+    ADDI        iiiiiiiiiiii sssss 000 ddddd 0010011 : i signed
+    SLTI        iiiiiiiiiiii sssss 010 ddddd 0010011 : i signed
+    SLTIU       iiiiiiiiiiii sssss 011 ddddd 0010011 : i signed
+    XORI        iiiiiiiiiiii sssss 100 ddddd 0010011 : i signed
+    ORI         iiiiiiiiiiii sssss 110 ddddd 0010011 : i signed
+    ANDI        iiiiiiiiiiii sssss 111 ddddd 0010011 : i signed
     SLLI        000000 hhhhhh sssss 001 ddddd 0010011
     SRLI        000000 hhhhhh sssss 101 ddddd 0010011
     SRAI        010000 hhhhhh sssss 101 ddddd 0010011
@@ -58,7 +63,7 @@ BASE = listed("""
     SRA         0100000 ttttt sssss 101 ddddd 0110011
     OR          0000000 ttttt sssss 110 ddddd 0110011
     AND         0000000 ttttt sssss 111 ddddd 0110011
-    ADDIW       iiiiiiiiiiii sssss 000 ddddd 0011011
+    ADDIW       iiiiiiiiiiii sssss 000 ddddd 0011011 : i signed
     SLLIW       0000000 hhhhh sssss 001 ddddd 0011011
     SRLIW       0000000 hhhhh sssss 101 ddddd 0011011
     SRAIW       0100000 hhhhh sssss 101 ddddd 0011011
@@ -150,9 +155,9 @@ FLOATING = """
 """
 
 FLOATING_OTHER = listed("""
-    FLH         iiiiiiiiiiii sssss 001 ddddd 0000111
-    FLW         iiiiiiiiiiii sssss 010 ddddd 0000111
-    FLD         iiiiiiiiiiii sssss 011 ddddd 0000111
+    FLH         iiiiiiiiiiii sssss 001 ddddd 0000111 : i signed
+    FLW         iiiiiiiiiiii sssss 010 ddddd 0000111 : i signed
+    FLD         iiiiiiiiiiii sssss 011 ddddd 0000111 : i signed
     FSH         iiiiiii ttttt sssss 001 iiiii 0100111
     FSW         iiiiiii ttttt sssss 010 iiiii 0100111
     FSD         iiiiiii ttttt sssss 011 iiiii 0100111
@@ -229,9 +234,9 @@ CACHE = listed("""
     CBO.CLEAN   000000000001 sssss 010 00000 0001111
     CBO.FLUSH   000000000010 sssss 010 00000 0001111
     CBO.ZERO    000000000100 sssss 010 00000 0001111    # Zicboz
-    PREFETCH.I  iiiiiii 00000 sssss 110 00000 0010011   # Zicbop
-    PREFETCH.R  iiiiiii 00001 sssss 110 00000 0010011
-    PREFETCH.W  iiiiiii 00011 sssss 110 00000 0010011
+    PREFETCH.I  iiiiiii 00000 sssss 110 00000 0010011 : i signed   # Zicbop
+    PREFETCH.R  iiiiiii 00001 sssss 110 00000 0010011 : i signed
+    PREFETCH.W  iiiiiii 00011 sssss 110 00000 0010011 : i signed
 """)
 
 

@@ -1,15 +1,15 @@
 /*
  * Kilnumber for programs in C and C++: the walk of a decode tree, with the bits that it tests, the size of a table's tree, the check
- * of a tree against its table, the listing of an image, the cycles of an entry.
+ * of a tree against its table, the listing of an image, the cycles of an entry, the numbers and texts of operands.
  *
  * docs/FORMAT.md has all that is written in bits: tables, trees, items and results, with every refusal's number and its place, and
  * the orders in which refusals are looked for. This file gives them names.
  *
  * - No pointer may be null, also with length 0. Lengths are in words for words and in bytes for bytes.
- * - Any bytes and words may be lent: what is wrong with them is answered, never a fault. Nothing lent is written but `items`, and
- *   nothing is read past the lengths.
+ * - Any bytes and words may be lent: what is wrong with them is answered, never a fault. Nothing lent is written but `items` and
+ *   `text`, and nothing is read past the lengths.
  * - Threads: no call keeps, allocates or locks anything. Calls may run at the same time on the same tree, table and image, as long
- *   as nobody writes to these meanwhile; each listing needs `items` of its own.
+ *   as nobody writes to these meanwhile; each listing needs `items` of its own, each text `text` of its own.
  * - One tree for all calls: kilnumber_walk and kilnumber_mask take a tree as it stands in a file, as bytes; kilnumber_check and
  *   kilnumber_list take words. Hold it as words (kilnumber_words makes them of a file's bytes), and walk it with
  *   kilnumber_walk_words and kilnumber_mask_words.
@@ -29,19 +29,23 @@ extern "C" {
 enum kilnumber_refusal {
     KILNUMBER_NO_REFUSAL = 0,
     KILNUMBER_TABLE_START = 1,     /* the table is empty, too long, or its first word is wrong */
-    KILNUMBER_TABLE_WORD = 2,      /* a head word or a cycles word is wrong, or the table ends early or late */
+    KILNUMBER_TABLE_WORD = 2,      /* a head word or a cycles word is wrong, or the table ends early or late; of a field's word by
+                                      itself: its kind is wrong, or a spare bit is set */
     KILNUMBER_TABLE_PATTERN = 3,   /* a mask or a value is wrong */
-    KILNUMBER_TABLE_FIELD = 4,     /* a field is wrong, or an entry's bits are not covered */
+    KILNUMBER_TABLE_FIELD = 4,     /* a field is wrong, or an entry's bits are not covered; of a field's word by itself: its width is
+                                      not 1 to 32, its form is over 2, or its fraction bits are over 16 or over its width */
     KILNUMBER_TREE_SIZE = 5,       /* the table's tree is over the limit of 16,384 words */
     KILNUMBER_AMBIGUOUS = 6,       /* some word is ambiguous by the table; kilnumber_word has it */
     KILNUMBER_HIGH_WORD = 7,       /* the word has a bit at or above the tree's width */
     KILNUMBER_TREE_HEADER = 8,     /* the tree's header or its length is wrong */
     KILNUMBER_DAMAGED_NODE = 9,    /* a node on the path is damaged */
     KILNUMBER_NO_ENTRY = 11,       /* the table has no such entry */
+    KILNUMBER_OUT_OF_RANGE = 12,   /* the field has no such value, or no value for such a number */
     KILNUMBER_WRONG_TREE = 14,     /* the tree is not right for the table */
     KILNUMBER_NO_IMAGE_TABLE = 15, /* the table's width is not 32, or a length is not 16 or 32 */
     KILNUMBER_BAD_IMAGE = 16,      /* the image has an odd number of bytes, or too many */
-    KILNUMBER_NO_ROOM = 17         /* more items than `items` has room for; it holds the earlier ones */
+    KILNUMBER_NO_ROOM = 17,        /* more items than `items` has room for; it holds the earlier ones */
+    KILNUMBER_NO_TEXT_ROOM = 18    /* the text is longer than the room for it, and `text` is as it was */
 };
 
 /* The number of the refusal in any call's 64 bits, 0 without one. The other accessors say something only where they say so. */
@@ -100,8 +104,8 @@ uint64_t kilnumber_list(const uint32_t *table, size_t table_words, const uint32_
 /* Without a refusal: the number of items of a listing. */
 static inline uint32_t kilnumber_items(uint64_t result) { return (uint32_t)(result & 0xffffffff); }
 
-/* The place in any result but a walk's, which has kilnumber_place: after 1 to 4 the index of the table's word at fault, after
- * KILNUMBER_NO_ROOM the halfword address of the first item left out. */
+/* The place in any result but a walk's, which has kilnumber_place: after 1 to 4 the index of the table's word at fault (0 of a field's
+ * word by itself), after KILNUMBER_NO_ROOM the halfword address of the first item left out. */
 static inline uint32_t kilnumber_list_place(uint64_t result) { return (uint32_t)(result & 0xffffffff); }
 
 /* An item: its kind, the entry where it is an instruction, and its halfword address; twice that is its offset in bytes. */
@@ -122,6 +126,44 @@ uint64_t kilnumber_cycles(const uint32_t *table, size_t table_words, uint32_t en
 
 /* Without a refusal: the number of cycles, at most 65,535. */
 static inline uint32_t kilnumber_cycle_count(uint64_t result) { return (uint32_t)(result & 0xffffffff); }
+
+/* ------------------------------------------------------------------------------------------------------------- the operands */
+
+/* What a field's values mean: plain numbers, numbers in two's complement, or these with a point. The field's word says it, in its form
+ * (bits 27-24) and its fraction bits (23-16); docs/FORMAT.md has the word. These calls take it by itself, and no table. In a table the
+ * words of an entry's fields stand after the head, mask and value of the entry and, in kind 6, its cycles; bits 7-4 of the head are how
+ * many there are. examples/operands.c finds them.
+ *
+ * `value` is the value as it is stored, without sign: the field's bits of an instruction, shifted down to bit 0. It has no bit at or
+ * above the field's width, else it is refused with 12. The field's lowest bit is not looked at. After a refusal all other bits of the
+ * result are zero. */
+
+/* The signed whole number that a value means; for fixed point how many of the smallest steps it is. Refusals: 2, 4, 12. */
+uint64_t kilnumber_signed(uint32_t field, uint32_t value);
+
+/* Without a refusal: that number. Bits 31-0 of the result are its lowest, and bit 40 is set if it is below zero. */
+static inline int64_t kilnumber_signed_number(uint64_t result) {
+    return (int64_t)(result & 0xffffffff) - (int64_t)(result >> 40 & 1) * ((int64_t)1 << 32);
+}
+
+/* The way back: the value that is stored for a signed whole number. A number that the field has no value for is refused with 12, and
+ * never cut. Refusals: 2, 4, 12. */
+uint64_t kilnumber_stored(uint32_t field, int64_t number);
+
+/* Without a refusal: the value. */
+static inline uint32_t kilnumber_stored_value(uint64_t result) { return (uint32_t)(result & 0xffffffff); }
+
+/* Writes what a value means to the start of `text`, as exact decimal text: a minus sign only below zero, no needless leading zero, at
+ * least one digit before the point and as many after it as there are fraction bits, no point if there are none. 0xF8 of eight bits, four
+ * of them after the point, is -0.5000. No zero byte ends the text: its length is in the result, and the bytes after it stay as they were.
+ * After a refusal all of `text` does. `room` is in bytes. Refusals: 2, 4, 12, 18. */
+uint64_t kilnumber_text(uint32_t field, uint32_t value, uint8_t *text, size_t room);
+
+/* Room that is enough for every text. */
+#define KILNUMBER_TEXT_ROOM 28
+
+/* Without a refusal: the length of the text, in bytes. */
+static inline uint32_t kilnumber_text_length(uint64_t result) { return (uint32_t)(result & 0xffffffff); }
 
 /* ------------------------------------------------------------------------------------------------------------- bytes and words */
 

@@ -1,6 +1,7 @@
 """Checks the instruction sets in data/: each table is what its list makes, its tree is the second implementation's, what
 probe selects is what the second implementation selects and what a decoder in decoders/ names, and its cycles are the list's. The twin
-of a table, which is of the other kind, has the same tree and selects the same. A table that somebody adds to data/, with
+of a table, which is of the other kind, has the same tree and selects the same; without forms it has the same tree. Its forms are those
+written here, and operands of known words come out as known numbers and texts. A table that somebody adds to data/, with
 a list or without, has no such decoder, and is compared with the second implementation alone.
 
 Usage: compare_data.py [path of probe [path of mktree]]. Exits with status 1 at the first difference.
@@ -27,7 +28,7 @@ import decoders.avr
 import decoders.buoy
 import decoders.riscv
 import make
-from patterns import fields_of, mask_and_value, table_bytes, table_words
+from patterns import POINT, SIGNED, Form, field_words, fields_of, listed, mask_and_value, table_bytes, table_words
 from second import examples
 from second.lines import line_of, mktree_text, read_line
 from second.reader import Refusal, read
@@ -38,6 +39,7 @@ from second.twins import Twins, cycles_of
 SEED = 9
 TWINS = Twins(902)
 MASK_SEED = 901                 # words that agree on a mask; the other draws don't depend on them
+FORM_SEED = 903                 # forms that are added
 DECODERS = {"avr": decoders.avr, "riscv": decoders.riscv, "a32": decoders.a32, "buoy": decoders.buoy}
 RANDOM_WORDS = 5400
 WORDS_AT_LEAST_EACH = 30        # words made of each entry, and as many neighbours
@@ -68,6 +70,59 @@ KNOWN = {
     "buoy": {0x0F000000: "TRIP", 0x1FF30000: "ADD", 0x1F030000: "TRIP", 0xB1000000: "nothing", 0xB1F00000: "DOZE",
              0xB1FF0000: "SLEEP", 0x9F100000: "LAMP OFF", 0xB0000000: "RETURN", 0xB0010000: "RELEASE", 0xE8000000: "STOP",
              0xEFF00000: "STOP ALL", 0xEFF00001: "nothing", 0xEFF00100: "SAMPLE"},
+}
+
+# The fields with a form, known from the manuals: mnemonic, lowest bit in the word, width, form, bits after the point. (In buoy's case from
+# the story of its versions.) Every other field is plain.
+I_TYPE = ("JALR", "LB", "LH", "LW", "LD", "LBU", "LHU", "LWU", "ADDI", "SLTI", "SLTIU", "XORI", "ORI", "ANDI", "ADDIW", "FLH", "FLW", "FLD")
+FORMS = {
+    "avr": {("RJMP", 16, 12, 1, 0), ("RCALL", 16, 12, 1, 0), ("BRBS", 19, 7, 1, 0), ("BRBC", 19, 7, 1, 0)},
+    "riscv": {*((mnemonic, 20, 12, 1, 0) for mnemonic in I_TYPE), ("LUI", 12, 20, 1, 0), ("AUIPC", 12, 20, 1, 0),
+              *((f"PREFETCH.{letter}", 25, 7, 1, 0) for letter in "IRW")},
+    "a32": {("B", 0, 24, 1, 0), ("BL", 0, 24, 1, 0), ("BLX", 0, 24, 1, 0)},
+    "buoy": {("SET", 16, 8, 1, 0), ("BRANCH", 16, 8, 1, 0), ("CALL", 16, 12, 1, 0), ("COMPARE", 16, 8, 1, 0), ("SET LONG", 0, 16, 1, 0),
+             ("FILTER", 0, 16, 2, 12)},
+}
+
+# Operands of words as assemblers print them: the word, the field's number in its entry, the signed number, the text.
+OPERANDS = {
+    "avr": [(0xCFFF0000, 0, -1, "-1"),                      # rjmp .-2: one word back, to itself
+            (0xC0000000, 0, 0, "0"),                        # rjmp .+0
+            (0xC8000000, 0, -2048, "-2048"),                # rjmp .-4096
+            (0xC7FF0000, 0, 2047, "2047"),                  # rjmp .+4094
+            (0xDFFD0000, 0, -3, "-3"),                      # rcall .-6
+            (0xF7F10000, 0, -2, "-2"),                      # brne .-4
+            (0xF7F10000, 1, 1, "1"),                        # its flag, Z
+            (0xF0090000, 0, 1, "1"),                        # breq .+2
+            (0xF2000000, 0, -64, "-64"),                    # brcs .-128
+            (0xEF8F0000, 0, 15, "15")],                     # ldi r24, 0xFF: the upper half of it
+    "riscv": [(0xFFF50513, 0, -1, "-1"),                    # addi a0, a0, -1
+              (0xFFF50513, 1, 10, "10"),                    # its register a0
+              (0x80010113, 0, -2048, "-2048"),              # addi sp, sp, -2048
+              (0x7FF00513, 0, 2047, "2047"),                # li a0, 2047
+              (0xFE843783, 0, -24, "-24"),                  # ld a5, -24(s0)
+              (0xFFC52503, 0, -4, "-4"),                    # lw a0, -4(a0)
+              (0xFFF53513, 0, -1, "-1"),                    # sltiu a0, a0, -1
+              (0xFFF54513, 0, -1, "-1"),                    # not a0, a0
+              (0xFFF7879B, 0, -1, "-1"),                    # addiw a5, a5, -1
+              (0x00008067, 0, 0, "0"),                      # ret
+              (0xFFFFF537, 0, -1, "-1"),                    # lui a0, 0xfffff
+              (0x80000537, 0, -524288, "-524288"),          # lui a0, 0x80000
+              (0x00001517, 0, 1, "1"),                      # auipc a0, 0x1
+              (0xFE056013, 0, -1, "-1"),                    # prefetch.i -32(a0)
+              (0x03F51513, 0, 63, "63")],                   # slli a0, a0, 63
+    "a32": [(0xEAFFFFFE, 1, -2, "-2"),                      # b to itself
+            (0xEAFFFFFE, 0, 14, "14"),                      # its condition, AL
+            (0xEB000000, 1, 0, "0"),
+            (0xEA7FFFFF, 1, 8388607, "8388607"),            # the farthest on
+            (0xEA800000, 1, -8388608, "-8388608"),          # the farthest back
+            (0xFAFFFFFF, 1, -1, "-1"),                      # blx
+            (0xEFFFFFFF, 1, 16777215, "16777215")],         # svc
+    "buoy": [(0x40FF0000, 1, -1, "-1"), (0x417F0000, 1, 127, "127"), (0x90800000, 1, -128, "-128"), (0xAFFE0000, 0, -2, "-2"),
+             (0xD0800000, 1, -128, "-128"), (0xE3008000, 1, -32768, "-32768"), (0x50FF0000, 1, 255, "255"),
+             (0xE4001000, 3, 4096, "1.000000000000"), (0xE400F800, 3, -2048, "-0.500000000000"),
+             (0xE4008000, 3, -32768, "-8.000000000000"), (0xE4007FFF, 3, 32767, "7.999755859375"),
+             (0xE400FFFF, 3, -1, "-0.000244140625"), (0xE4000000, 3, 0, "0.000000000000")],
 }
 
 # The start of a program as avr-gcc makes it, bytes in flash order, and what a lister must say of it.
@@ -135,6 +190,9 @@ def compare_tree(path, mktree_path, one, tally):
         stop(f"{one.name}: {expected}")
     seen = mktree.text_of(mktree_path, data)
     mktree.stop_at_difference(one.name, data, expected, seen)
+    plain = probe.pack(table_words(without_forms(one.set)))
+    mktree.stop_at_difference(f"{one.name}, without forms", plain, seen, mktree.text_of(mktree_path, plain))
+    tally["without forms"] += plain != data
     twinned.compare_text(mktree_path, TWINS, one.name, data, seen, tally, second=len(one.words) < 1000)
     tree = [int(line.split(" ")[1], 16) for line in seen.splitlines()]
     questions = ("check", one.words, tree), ("measure", one.words)
@@ -147,9 +205,9 @@ def compare_tree(path, mktree_path, one, tally):
 
 
 def numbers_of(one, tree):
-    """What README.md says of a set: width, entries, words, nodes, most tests on a path."""
+    """What README.md says of a set: width, entries, words, fields with a form, nodes, most tests on a path."""
     most = max(len(node.cell.fixed) for node in nodes_once(tuple(one.words)))
-    return [one.set.width, len(one.set.instructions), len(one.words), len(tree) - 1, most]
+    return [one.set.width, len(one.set.instructions), len(one.words), forms_in(one).total(), len(tree) - 1, most]
 
 
 def compare_readme(one, tree):
@@ -260,6 +318,113 @@ def compare_listing(path, one, tree, tally):
     tally["listed"] += len(items)
 
 
+# ---------------------------------------------------------------------------- forms and operands
+
+def without_forms(one):
+    return replace(one, instructions=tuple(replace(instruction, forms=()) for instruction in one.instructions))
+
+
+def forms_in(one):
+    """The fields with a form that the second implementation reads in a table, as in FORMS."""
+    return Counter((instruction.mnemonic, field.lowest, field.width, field.form, field.fraction)
+                   for instruction, entry in zip(one.set.instructions, one.table.entries, strict=True)
+                   for field in entry.fields if (field.form, field.fraction) != (0, 0))
+
+
+def form_faults(one):
+    """What the table has beside the known forms, or lacks of them. No two encodings of a mnemonic have the same one."""
+    return forms_in(one) - Counter(FORMS[one.name]) + (Counter(FORMS[one.name]) - forms_in(one))
+
+
+def field_word(field):
+    return 3 << 28 | field.form << 24 | field.fraction << 16 | field.lowest << 8 | field.width
+
+
+def operand_questions(one):
+    """(question, its line) for each known operand: its number, the value of that number, its text in a buffer that has a byte more, and
+    18 in one that has a byte less."""
+    for word, index, number, text in OPERANDS[one.name]:
+        field = one.table.entries[select(one.table, word)].fields[index]
+        its, value = field_word(field), word >> field.lowest & (1 << field.width) - 1
+        after, short = text.encode() + b"*", b"*" * (len(text) - 1)
+        yield ("signed", its, value), f"14 0 0 00000000 {number}"
+        yield ("stored", its, number), f"15 0 0 00000000 {value:08x}"
+        yield ("text", its, value, b"*" * len(after)), f"16 0 0 00000000 {len(text)} | {after.hex(' ')}"
+        yield ("text", its, value, short), f"16 18 0 00000000 | {short.hex(' ')}".rstrip()
+
+
+def operand_faults(path, one):
+    """The known operands that probe has otherwise: (question, expected line, seen line)."""
+    questions, expected = zip(*operand_questions(one))
+    return [one for one in zip(questions, expected, probe.ask(path, questions), strict=True) if one[1] != one[2]]
+
+
+def compare_forms(path, one, tally):
+    if faults := form_faults(one):
+        stop(f"{one.name}: other forms than the known ones: {dict(faults)}")
+    for question, expected, seen in operand_faults(path, one):
+        probe.stop_at_difference(f"{one.name}, operands", question, expected, seen)
+    tally["forms"] += forms_in(one).total()
+    tally["operands"] += len(OPERANDS[one.name])
+    tally["operands below zero"] += sum(number < 0 for _, _, number, _ in OPERANDS[one.name])
+
+
+def altered_forms(instruction):
+    """The instruction with its first form left out, or another one in its place."""
+    form, *others = instruction.forms
+    width = instruction.pattern.count(form.letter)
+    for fraction in {0, 1, form.fraction - 1, form.fraction + 1, min(width, 16)} - {form.fraction, -1}:
+        yield replace(instruction, forms=(Form(form.letter, POINT, fraction), *others))
+    if form.form == POINT:
+        yield replace(instruction, forms=(Form(form.letter, SIGNED), *others))
+    yield replace(instruction, forms=tuple(others))
+
+
+def added_forms(instruction):
+    """The instruction with a form for each plain field that may have one."""
+    for lowest, size in fields_of(instruction.pattern, 32):
+        letter = instruction.pattern[31 - lowest]
+        if instruction.pattern.count(letter) == size and all(form.letter != letter for form in instruction.forms):
+            yield replace(instruction, forms=(*instruction.forms, Form(letter, SIGNED)))
+
+
+def notice_forms(path, rng, one, tally):
+    """Other forms than the known ones are noticed; those of a field of an operand below zero by this operand too."""
+    entries = one.set.instructions
+    with_form = [number for number, instruction in enumerate(entries) if instruction.forms]
+    below_zero = {select(one.table, word) for word, _, number, _ in OPERANDS[one.name] if number < 0}
+    added = [(number, after) for number, before in enumerate(entries) for after in added_forms(before)]
+    others = [(number, after) for number in with_form for after in altered_forms(entries[number])]
+    for number, after in others + rng.sample(added, ALTERED):
+        other = ready(one.name, replace(one.set, instructions=(*entries[:number], after, *entries[number + 1:])))
+        if not form_faults(other):
+            stop(f"{one.name}, entry {number}: {entries[number].forms} altered to {after.forms} isn't noticed")
+        tally["altered forms"] += 1
+        if number in below_zero and (number, after) in others:
+            if not operand_faults(path, other):
+                stop(f"{one.name}, entry {number}: {entries[number].forms} altered to {after.forms} isn't noticed by operands")
+            tally["altered forms of operands"] += 1
+
+
+def try_lists(tally):
+    """What a list may not have: an unknown form, a letter that is split, that is not there or named twice, too many bits after the
+    point. Then what it may."""
+    for line in ("A  1kkk kkkk : k", "A  1kkk kkkk : k sign", "A  1kkk kkkk : signed", "A  1kkk kkkk :", "A  1kkk kkkk : k point",
+                 "A  1kkk kkkk : k point -1", "A  1kkk kkkk : kk signed", "A  1kkk 0kkk : k signed", "A  1kkk kkkk : j signed",
+                 "A  1kkk kkkk : k signed, k signed", "A  1kkk kkkk : k point 8", "A  kkkk kkkk kkkk kkkk kkkk : k point 17"):
+        try:
+            field_words(listed(line)[0], 32)
+        except ValueError:
+            tally["forms in lists"] += 1
+        else:
+            stop(f"a list may have {line!r}")
+    for line, word in (("A  1kkk kkkk : k point 7", 0x32071807), ("A  kkkk kkkk kkkk kkkk : k point 16 = 3", 0x32101010),
+                       ("A  1kkk kkkk : k point 0 = 3", 0x32001807), ("A  k100 0000 : k signed", 0x31001F01)):
+        if field_words(listed(line)[0], 32) != [word]:
+            stop(f"{line!r} has not the field {word:08x}")
+        tally["forms in lists"] += 1
+
+
 # ---------------------------------------------------------------------------- altered sets, which must be noticed
 
 def altered(rng, instruction):
@@ -340,7 +505,8 @@ def try_added(path, mktree_path, rng):
 def least(sets):
     needed = {"known": 90, "listed": len(AVR_LISTING), "altered": ALTERED * len(sets), "tree lines": 10000}
     needed |= {"words that agree": 60, "cycles": 2 * sum(len(one.set.instructions) for one in sets), "cycles, not 0": 400,
-               "twins": 4 * len(sets) + 1, "twins by the second": 2}
+               "twins": 4 * len(sets) + 1, "twins by the second": 2, "without forms": len(sets), "forms": 36, "operands": 45,
+               "operands below zero": 25, "altered forms": 160, "altered forms of operands": 60, "forms in lists": 16}
     for one in sets:
         needed |= {f"{one.name}, twin": 20000 // TWIN_EACH}
         needed |= {one.name: 20000, f"{one.name}, made": 7000, f"{one.name}, neighbours": 7000}
@@ -364,8 +530,11 @@ def main():
         compare_masks(path, one, tree, tally)
         compare_words(path, rng, one, tally)
         notice_altered(rng, one, tally)
+        compare_forms(path, one, tally)
+        notice_forms(path, random.Random(FORM_SEED), one, tally)
         if one.name == "avr":
             compare_listing(path, one, tree, tally)
+    try_lists(tally)
     try_added(path, mktree_path, rng)
     for file in added(DATA):
         compare_added(path, mktree_path, rng, file, tally)
@@ -374,7 +543,8 @@ def main():
     in_twins = sum(tally[f"{one.name}, twin"] for one in sets)
     print(f"compare_data good: {len(sets)} sets, {tally['tree lines']} tree words; words by set {said}; "
           f"{tally['known']} known words and {tally['words that agree']} that agree on a mask, "
-          f"{tally['listed']} items listed, {tally['altered']} altered sets noticed; {tally['cycles']} cycles; of the twins "
+          f"{tally['listed']} items listed, {tally['altered']} altered sets noticed; {tally['cycles']} cycles; {tally['forms']} forms, "
+          f"{tally['operands']} operands known by number and text, {tally['altered forms']} altered forms noticed; of the twins "
           f"{in_twins} words and {tally['twins']} other questions; "
           f"{tally['added']} tables added by others")
 

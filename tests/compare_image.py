@@ -38,7 +38,8 @@ class Ready:
 # ---------------------------------------------------------------------------- tables and trees
 
 def ready(rng, plan):
-    """The plan with its tree, or another tree of it, and sometimes words lent after it; None if it is too large."""
+    """The plan with its tree, or another tree of it, and sometimes words lent after it; None if it is too large. Its fields get forms."""
+    plan = tables.with_forms(rng, plan)
     words = tables.lay_out(plan).words
     nodes = nodes_of(read(words), USUAL_NODES)
     if nodes is None or conflict_word(nodes) is not None:

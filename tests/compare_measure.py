@@ -25,7 +25,7 @@ from second.twins import Twins, kind_of
 from second.wrong_sizes import WRONG
 
 SEED = 12
-USUAL_TABLES = 1216
+USUAL_TABLES = 1280
 LARGE_CASES = 6         # two for each large tree
 ALL_WORDS_WIDTH = 10    # up to that width every word is walked
 SOME_LEAVES = 6         # of a wider table's tree, beside a deepest one

@@ -41,6 +41,10 @@ def damages(rng):
     for width in list(range(1, 33)) * 2:
         for laid in tables.lay_out_both(rng, tables.good_plan(rng, width, most_entries=5, conditions_often=0.6)):
             yield from ((kind.__name__, laid, kind(rng, laid)) for kind in tables.USUAL_DAMAGES)
+    for width in range(17, 33):
+        # fields that are wide enough are rare in other tables
+        for laid in tables.lay_out_both(rng, tables.small_entries_plan(rng, width, 8)):
+            yield "fraction_over", laid, tables.fraction_over(rng, laid)
     for width in range(1, 33):
         for laid in tables.lay_out_both(rng, tables.good_plan(rng, width, most_entries=3)):
             yield from (("cut", laid, damage) for damage in tables.every_cut(laid))
@@ -125,7 +129,8 @@ def require(count, least, what):
 
 LEAST = {"kind 6, number 0": 60, "kind 6, number 1": 150, "kind 6, number 2": 2000, "kind 6, number 3": 200, "kind 6, number 4": 400,
          "twins": 1000, "twins by the second": 50,
-         "cycles_over": 40, "cycles_missing": 40, "opcode_before_cycles": 40, "cycles_before_fields": 40}
+         "cycles_over": 40, "cycles_missing": 40, "opcode_before_cycles": 40, "cycles_before_fields": 40,
+         "field_spare": 60, "field_spare_no_form": 60, "form_over": 60, "fraction_over": 15, "fraction_wide": 60}
 
 
 def require_enough(cases, by_number, good_widths, bad_widths, tally):

@@ -21,7 +21,7 @@ import probe
 ROOT = Path(__file__).resolve().parent.parent
 PAGES = ["TABLES.md", "mktree.md", "probe.md", "ARCHITECTURE.md"]
 # A page that loses what is compared must not pass.
-LEAST = {"crates": 15, "theorems": 12, "TABLES.md": 90, "mktree.md": 8, "probe.md": 15, "ARCHITECTURE.md": 4}
+LEAST = {"crates": 15, "theorems": 12, "TABLES.md": 90, "mktree.md": 8, "probe.md": 25, "ARCHITECTURE.md": 4}
 DEFINED_IN = "TABLES.md"
 MARK = "@@ next command @@"
 

@@ -1,6 +1,7 @@
 #!/usr/bin/env bash
 # Builds the C examples as their own comments say, under gcc's sanitizers, and runs them: simulator.c on the worked table, on
-# words of 16 and 32 bits and on each refusal; lister.c and cache.c on an AVR image, on the buoy's table and on each refusal.
+# words of 16 and 32 bits and on each refusal; lister.c and cache.c on an AVR image, on the buoy's table and on each refusal;
+# operands.c on instructions of the buoy, AVR and A32, on operands of 32 bits and on each refusal.
 # Every expected line is written here by hand. Then it shows that edits of the examples are noticed. (tests/c/cache_test.c tries
 # the cache with narrow and damaged trees.)
 # It needs gcc and python3, target/bin/mktree and the library; tests/run has just built that one (tests/c/run).
@@ -33,6 +34,9 @@ words 70030003 81000003 a0000000 90000000 > "$out/three.tree"
 # One entry of width 32, 1--..-1: bits 31 and 0 are tested.
 words 10010020 20002010 80000001 80000001 3000011e > "$out/ends.table"
 words 70200005 8f800003 a0000000 80000005 a0000000 90000000 > "$out/ends.tree"
+# One entry of width 32 that is one field: with a sign, and with sixteen bits after the point.
+words 10010020 20002010 00000000 00000000 31000020 > "$out/signed.table"
+words 10010020 20002010 00000000 00000000 32100020 > "$out/point.table"
 words 10010003 20000310 00000004 00000004 > "$out/early.table"      # ends before the field
 words 70030003 81000004 a0000000 90000000 > "$out/damaged.tree"     # the one side is past the last node
 words 70030003 81000003 90000000 90000000 > "$out/other.tree"       # well formed, and another table's
@@ -159,6 +163,57 @@ status 2
 status 2
 END
 
+# FILTER with two gains, BRANCH, SAMPLE, whose fields are plain, and STOP ALL; rjmp .-2, brne .-4 and nop; b to itself.
+cat > "$out/operands.expected" <<'END'
+bits 25-24: 0
+bits 23-20: 1
+bits 19-16: 2
+bits 15-0: -0.500000000000
+status 0
+bits 25-24: 3
+bits 23-20: 15
+bits 19-16: 0
+bits 15-0: 7.999755859375
+status 0
+bits 27-24: 0
+bits 23-16: -2
+status 0
+bits 26-20: 127
+bits 19-16: 8
+bits 15-8: 255
+bits 7-0: 128
+status 0
+bits 19-16: 9
+status 0
+bits 27-16: -1
+status 0
+bits 25-19: -2
+bits 18-16: 1
+status 0
+status 0
+bits 31-28: 14
+bits 23-0: -2
+status 0
+bits 31-0: -1
+status 0
+bits 31-0: -32768.0000000000000000
+status 0
+refused 11: the table has no entry 97
+status 1
+refused 11: the table has no entry 256
+status 1
+refused 2: word 4 of the table is at fault
+status 1
+refused 1: word 0 of the table is at fault
+status 1
+status 2
+status 2
+status 2
+status 2
+status 2
+status 2
+END
+
 run() { # program, its files
     local status=0
     ASAN_OPTIONS=allocator_may_return_null=1 "$@" 2> "$out/stderr" || status=$?
@@ -209,6 +264,30 @@ cache_runs() { # program
     run "$1" "$out/early.table" "$out/three.tree" examples/avr.image
     run "$1" data/avr.table "$out/cut.tree" examples/avr.image
     run "$1" data/avr.table "$out/avr.tree" "$out"
+}
+
+operands_runs() { # program
+    run "$1" data/buoy.table 23 e412f800
+    run "$1" data/buoy.table 23 e7f07fff
+    run "$1" data/buoy.table 9 90fe0000
+    run "$1" data/buoy.table 26 eff8ff80
+    run "$1" data/buoy.table 25 eff90000
+    run "$1" data/avr.table 88 cfff0000
+    run "$1" data/avr.table 92 f7f10000
+    run "$1" data/avr.table 0 0
+    run "$1" data/a32.table 180 0xeafffffe
+    run "$1" "$out/signed.table" 0 ffffffff
+    run "$1" "$out/point.table" 0 80000000
+    run "$1" data/avr.table 97 0
+    run "$1" data/avr.table 256 0
+    run "$1" "$out/early.table" 0 0
+    run "$1" /dev/null 0 0                                               # a table without words
+    run "$1" data/avr.table 0 100000000                                  # more than 32 bits
+    run "$1" data/avr.table -1 0
+    run "$1" data/avr.table 0x 0
+    run "$1" data/avr.table 0 ''
+    run "$1" "$out/cut.tree" 0 0
+    run "$1" data/avr.table 0
 }
 
 try_example() { # name; standard input: an edit a line, each of which makes one thing wrong, so that the lines must differ
@@ -276,6 +355,30 @@ s/image.at\[2 \* address\] |/image.at[2 * address + 1] |/
 s/count - cache.misses/count/
 s/int failed = kilnumber_number(result) != 0;/int failed = 0;/
 s/return failed;/return 0;/
+s/if (bytes.count % 4 != 0)/if (0)/
+END
+
+try_example operands <<'END'
+s/== 6 ? 4 : 3/== 6 ? 3 : 3/
+s/== 6 ? 4 : 3/== 6 ? 4 : 4/
+s/head >> 4 & 15/head \& 15/
+s/3 + 3 \* (table.at\[at\] & 15)/3/
+s/left = table.at\[head\] & 15/left = 0/
+s/fields_of(table, head) + at\]/fields_of(table, head)]/
+s/word >> lowest & /word \& /
+s/1 << width) - 1/1 << 31) - 1/
+s/lowest = field >> 8 & 0xff/lowest = 0/
+s/kilnumber_text(field,/kilnumber_text(field \& 0xf000ffff,/
+s/(int)kilnumber_text_length(result)/2/
+s/text\[KILNUMBER_TEXT_ROOM\]/text[22]/
+s/number == KILNUMBER_NO_ENTRY/number != 0/
+s/return number != 0;/return 0;/
+s/if (!failed) //
+s/return failed;/return 0;/
+s/ || number > 0xffffffff//
+s/ || \*end != '\\0'//
+s/end == text || //
+s/argument\[3\], 16/argument[3], 10/
 s/if (bytes.count % 4 != 0)/if (0)/
 END
 

@@ -35,19 +35,27 @@ def part_of(value):
     return words_of(part_bytes(value))
 
 
-# The requests in the order of their numbers, from 1, and what a call takes from each part: words, bytes or a number.
+# The requests in the order of their numbers, from 1, and what a call takes from each part: words, bytes, a number or a long.
 FORMS = {"read": "W", "lookup": "WN", "generate": "WW", "walk bytes": "BN", "decode": "WNW", "encode": "WNW", "check": "WW",
-         "step": "WWBN", "list": "WWBW", "walk": "WN", "mask": "BN", "measure": "W", "cycles": "WN"}
+         "step": "WWBN", "list": "WWBW", "walk": "WN", "mask": "BN", "measure": "W", "cycles": "WN",
+         "signed": "NN", "stored": "NL", "text": "NNB"}
 NAMES = list(FORMS)
+
+
+def parts_of(question):
+    """The parts of a question as part_bytes takes them: a long becomes eight bytes, two's complement, low byte first."""
+    name, *parts = question
+    return [struct.pack("<q", part) if form == "L" else part for form, part in zip(FORMS[name], parts, strict=True)]
 
 
 def request_bytes(question):
     """A request. A question is ("read", table), ("lookup", table, word), ("generate", table, buffer),
     ("walk bytes", bytes, word), ("decode", table, word, buffer), ("encode", table, entry, values), ("check", table, tree),
     ("step", table, tree, image, address), ("list", table, tree, image, buffer), ("walk", tree, word), ("mask", bytes, word),
-    ("measure", table) or ("cycles", table, entry)."""
-    name, *parts = question
-    return pack([NAMES.index(name) + 1, len(parts)]) + b"".join(part_bytes(part) for part in parts)
+    ("measure", table), ("cycles", table, entry), ("signed", field, value), ("stored", field, number) or
+    ("text", field, value, bytes)."""
+    parts = parts_of(question)
+    return pack([NAMES.index(question[0]) + 1, len(parts)]) + b"".join(part_bytes(part) for part in parts)
 
 
 def request_of(question):
@@ -60,10 +68,15 @@ def words_of(data):
     return list(struct.unpack(f"<{len(data) // 4}I", data[:len(data) // 4 * 4]))
 
 
+def long_of(data):
+    """The first two whole words of bytes as one number in two's complement, low word first, 0 for each that is not there."""
+    return struct.unpack("<q", pack((words_of(data) + [0, 0])[:2]))[0]
+
+
 def question_of(number, parts):
     """The question of a request, given its number and the bytes of its parts. Parts that it does not have are empty."""
     name = NAMES[number - 1]
-    take = {"W": words_of, "B": bytes, "N": lambda part: (words_of(part) or [0])[0]}
+    take = {"W": words_of, "B": bytes, "N": lambda part: (words_of(part) or [0])[0], "L": long_of}
     return name, *(take[form](part) for form, part in zip(FORMS[name], parts + [b""] * 8))
 
 
@@ -73,6 +86,11 @@ def lines_of(path, data):
     if printed and not printed.endswith(b"\n"):
         sys.exit(f"the last line isn't ended by a newline: {printed[-100:]!r}")
     return printed.decode("ascii", errors="replace").split("\n")[:-1]
+
+
+def bytes_left(line):
+    """The bytes of the buffer at a line's end."""
+    return bytes.fromhex(line.partition(" |")[2])
 
 
 def batches(requests):

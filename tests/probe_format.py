@@ -21,6 +21,8 @@ NO_PARTS = [1, 0]                   # two words: the table is empty too
 TREE = [0x70020003, 0x80800003, 0xA0000000, 0x90000000]
 EIGHT = [0x11111111 * k for k in range(1, 9)]
 EIGHT_TEXT = " ".join(f"{word:08x}" for word in EIGHT)
+POINT = 0x32040008                  # a field of eight bits, four of them after the point
+HALF_TEXT = "2d 30 2e 35 30 30 30"  # -0.5000
 
 WORDS_IN_FULL_INPUT = 262144        # 1,048,576 bytes
 UNKNOWN = (0, len(probe.NAMES) + 1, 100, 255, 0x100, 0x101, 0x10001, 0x1000001, 0x80000001, 0x7FFFFFFF, 0xFFFFFFFF)
@@ -77,6 +79,9 @@ def parts_not_taken():
     yield "a buffer after the buffer", asked(3, [], EIGHT[:2], EIGHT), ["3 1 0 00000000 | 11111111 22222222"]
     yield "a buffer after a table to size", asked(12, PRINTED, EIGHT), ["12 0 0 00000000 3 1"]
     yield "a buffer after an entry", asked(13, CYCLES, 0, EIGHT), ["13 0 0 00000000 77"]
+    yield "a buffer after a value", asked(14, POINT, 0xF8, EIGHT), ["14 0 0 00000000 -8"]
+    yield "a buffer after a long", asked(15, POINT, [0xFFFFFFF8, 0xFFFFFFFF], EIGHT), ["15 0 0 00000000 000000f8"]
+    yield "a buffer after a text's buffer", asked(16, POINT, 0xF8, b"abcdefg", EIGHT), ["16 0 0 00000000 7 | " + HALF_TEXT]
 
 
 def parts_not_there():
@@ -97,7 +102,18 @@ def parts_not_there():
     yield "sizing, no parts", bytes_of([12, 0]), ["12 1 0 00000000"]
     yield "cycles, no parts", bytes_of([13, 0]), ["13 1 0 00000000"]
     yield "cycles, no entry", bytes_of([13, 1, *probe.part_of(CYCLES)]), ["13 0 0 00000000 77"]
+    yield "signed, no parts", bytes_of([14, 0]), ["14 2 0 00000000"]
+    yield "signed, no value", bytes_of([14, 1, *probe.part_of(POINT)]), ["14 0 0 00000000 0"]
+    yield "stored, no parts", bytes_of([15, 0]), ["15 2 0 00000000"]
+    yield "stored, no number", bytes_of([15, 1, *probe.part_of(POINT)]), ["15 0 0 00000000 00000000"]
+    yield "text, no parts", bytes_of([16, 0]), ["16 2 0 00000000 |"]
+    yield "text, no value", bytes_of([16, 1, *probe.part_of(POINT)]), ["16 18 0 00000000 |"]
+    yield "text, no buffer", bytes_of([16, 2, *probe.part_of(POINT), *probe.part_of(0xF8)]), ["16 18 0 00000000 |"]
+    yield "text, an empty value", asked(16, POINT, b"", b"abcdefg"), ["16 0 0 00000000 6 | 30 2e 30 30 30 30 67"]
     # what comes next in the input is no part of it
+    yield "no number is taken from the next request", bytes_of([15, 1, *probe.part_of(POINT), *GOOD]), ["15 0 0 00000000 00000000", GOOD_LINE]
+    yield "no buffer is taken from the next request", bytes_of([16, 2, *probe.part_of(POINT), *probe.part_of(0xF8), *GOOD]), \
+        ["16 18 0 00000000 |", GOOD_LINE]
     yield "nothing is taken from the next request", bytes_of([2, 1, *printed, *GOOD]), ["2 0 0 00000000 nothing", GOOD_LINE]
     yield "no table is taken from the next request", bytes_of([12, 0, *GOOD]), ["12 1 0 00000000", GOOD_LINE]
 
@@ -121,6 +137,45 @@ def words_of_parts():
             ["11 0 0 00000000 " + ("00000000" if rest else "00000002")]
         yield "an image, " + what, asked(9, image_table, [0x70200001, 0xA0000000], rest, [5]), \
             ["9 16 0 00000000 | 00000005" if len(rest) % 2 else f"9 0 0 00000000 {len(rest) // 2} | " + ("d0000000" if rest else "00000005")]
+        yield "a buffer of bytes, " + what, asked(16, POINT, 0xF8, b"abcdefgh" + rest), \
+            ["16 0 0 00000000 7 | " + " ".join([HALF_TEXT, "68", *(f"{byte:02x}" for byte in rest)])]
+        yield "a buffer of few bytes, " + what, asked(16, POINT, 0xF8, b"abc" + rest), \
+            ["16 18 0 00000000 | " + " ".join(["61 62 63", *(f"{byte:02x}" for byte in rest)])]
+    # a byte buffer may be of any length, and lines after it are right
+    for size in range(20):
+        room = bytes(range(size))
+        after = " ".join(["|", *(f"{byte:02x}" for byte in (b"-0.5000" + room[7:] if size >= 7 else room))])
+        yield f"a buffer of {size} bytes", asked(16, POINT, 0xF8, room) + bytes_of(GOOD), \
+            [f"16 0 0 00000000 7 {after}" if size >= 7 else f"16 18 0 00000000 {after}", GOOD_LINE]
+    # a text leaves nothing for the next buffer
+    yield "a long buffer, then short ones", asked(16, POINT, 0xF8, b"z" * 30) + asked(16, POINT, 0xF8, b"ab") + asked(16, POINT, 0x100, b"") \
+        + asked(16, POINT, 0, b"ABCDEFG"), \
+        ["16 0 0 00000000 7 | " + " ".join([HALF_TEXT, *["7a"] * 23]), "16 18 0 00000000 | 61 62", "16 12 0 00000000 |",
+         "16 0 0 00000000 6 | 30 2e 30 30 30 30 47"]
+
+
+def longs():
+    """A long is the part's first two whole words, low word first, 0 for each that is not there, in two's complement."""
+    plain, signed = 0x30000020, 0x31000020
+    minus_two = b"\xfe" + b"\xff" * 7
+    for size in range(10):
+        # 4,294,967,294 where the second word is not whole
+        data = (minus_two + b"\xff")[:size]
+        words = size // 4
+        yield f"a long in {size} bytes, plain", asked(15, plain, data) + bytes_of(GOOD), \
+            [("15 0 0 00000000 00000000", "15 0 0 00000000 fffffffe", "15 12 0 00000000")[words], GOOD_LINE]
+        yield f"a long in {size} bytes, signed", asked(15, signed, data) + bytes_of(GOOD), \
+            [("15 0 0 00000000 00000000", "15 12 0 00000000", "15 0 0 00000000 fffffffe")[words], GOOD_LINE]
+    for low, high, of_plain, of_signed in (
+            (0, 0, "00000000", "00000000"), (1, 0, "00000001", "00000001"), (0x7FFFFFFF, 0, "7fffffff", "7fffffff"),
+            (0x80000000, 0, "80000000", None), (0xFFFFFFFF, 0, "ffffffff", None), (0, 1, None, None), (0xFFFFFFFF, 0xFFFFFFFF, None, "ffffffff"),
+            (0x80000000, 0xFFFFFFFF, None, "80000000"), (0x7FFFFFFF, 0xFFFFFFFF, None, None), (0, 0xFFFFFFFF, None, None),
+            (0, 0x80000000, None, None), (0xFFFFFFFF, 0x7FFFFFFF, None, None), (0xFFFFFFFE, 0x80000000, None, None),
+            (5, 0x80000000, None, None), (5, 0x100, None, None)):
+        for field, value in ((plain, of_plain), (signed, of_signed)):
+            line = "15 12 0 00000000" if value is None else f"15 0 0 00000000 {value}"
+            yield f"the long {high:08x} {low:08x} for {field:08x}", asked(15, field, [low, high]), [line]
+            yield f"the long {high:08x} {low:08x} for {field:08x}, words after it", asked(15, field, [low, high, 7, 7]), [line]
 
 
 def numbers():
@@ -134,6 +189,11 @@ def numbers():
     yield "an entry is 32 bits", asked(6, PRINTED, 0x80000000, [1]), ["6 11 0 00000000"]
     yield "an entry for its cycles is 32 bits", asked(13, CYCLES, 0x80000000), ["13 11 0 00000000"]
     yield "an entry for its cycles is the first word", asked(13, CYCLES, [1, 0]), ["13 11 0 00000000"]
+    yield "a field's word is the first word", asked(14, [POINT, 0], [0xF8, 1]), ["14 0 0 00000000 -8"]
+    yield "a field's word is 32 bits", asked(14, POINT | 1 << 31, 0xF8), ["14 2 0 00000000"]
+    yield "a field's word that is not whole", asked(14, b"\x08\x00\x04", 0xF8), ["14 2 0 00000000"]
+    yield "a stored value is 32 bits", asked(14, POINT, 0x800000F8), ["14 12 0 00000000"]
+    yield "a stored value for its text is 32 bits", asked(16, POINT, 0x800000F8, b"abcdefg"), ["16 12 0 00000000 | 61 62 63 64 65 66 67"]
     yield "an address is 32 bits", asked(8, [0x10000020], [0x70200001, 0xA0000000], b"\0\0", 0x80000000), ["8 0 0 00000000 end"]
 
 
@@ -213,7 +273,7 @@ def inputs_too_long():
     yield "one request, one word too long", bytes_of([1, 1, 4 * too_many] + [0] * too_many), ["stopped 0"]
 
 
-SOURCES = (whole_requests, unknown_numbers, counts_of_parts, parts_not_taken, parts_not_there, words_of_parts, numbers, paddings,
+SOURCES = (whole_requests, unknown_numbers, counts_of_parts, parts_not_taken, parts_not_there, words_of_parts, longs, numbers, paddings,
            broken_requests, lengths_too_large, trailing_bytes, full_inputs, inputs_too_long)
 
 

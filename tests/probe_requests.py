@@ -1,4 +1,4 @@
-"""Tests of requests 2 to 13 as a whole (docs/probe.md): cut after each word, lengths too large, trailing bytes, parts left out
+"""Tests of requests 2 to 16 as a whole (docs/probe.md): cut after each word, lengths too large, trailing bytes, parts left out
 and added, and lines longer than probe's page. Whole requests get the second implementation's line.
 
 Usage: probe_requests.py [path of probe]. Exits with status 1 at the first difference. It stands beside probe.py.
@@ -16,6 +16,7 @@ TWIN = [0x20000100, 0x00000001, 0x00000001]                                   # 
 EIGHT = [0x11111111 * k for k in range(1, 9)]
 IMAGE_TABLE = [0x10010020, 0x20001010, 0x80000000, 0x00000000, 0x3000100F]     # width 32, a 16-bit entry 0---..
 IMAGE_TREE = [0x70200003, 0x8F800003, 0x90000000, 0xA0000000]
+POINT = 0x32040008                                                            # a field of eight bits, four of them after the point
 IMAGE = b"\x34\x12\x01\x80\xff\x7f"                                           # six bytes: two of padding
 WORDS_IN_FULL_INPUT = 262144
 
@@ -35,6 +36,9 @@ QUESTIONS = [
     ("list", [], [], b"", []),
     ("measure", PRINTED), ("measure", PRINTED[:4]), ("measure", [0x10020001, *TWIN, *TWIN]), ("measure", []),
     ("cycles", CYCLES, 0), ("cycles", CYCLES, 0xFFFFFFFF), ("cycles", CYCLES[:4], 0), ("cycles", PRINTED, 0), ("cycles", [], 0),
+    ("signed", POINT, 0xF8), ("signed", POINT, 0x100), ("signed", 0, 0),
+    ("stored", POINT, -8), ("stored", 0x30000020, -2 ** 63), ("stored", 0, 0),
+    ("text", POINT, 0xF8, b"abcdefgh"), ("text", POINT, 0xF8, b"abcde"), ("text", POINT, 0x100, b"a"), ("text", 0, 0, b""),
 ]
 TOO_LARGE = (0x100, 262144, 0x3FFFFFFF, 0x40000000, 0x40000005, 0x7FFFFFFF, 0x80000000, 0xFFFFFFFA, 0xFFFFFFFB, 0xFFFFFFFC,
              0xFFFFFFFD, 0xFFFFFFFE, 0xFFFFFFFF)
@@ -63,7 +67,7 @@ def lengths_too_large():
     """Each part of each request with a length that the input can't hold."""
     for question in QUESTIONS:
         words, at = probe.request_of(question), 2
-        for part in question[1:]:
+        for part in probe.parts_of(question):
             for length in TOO_LARGE:
                 broken = [*words[:at], length, *words[at + 1:]]
                 yield question, probe.pack(broken), ["stopped 0"]
@@ -81,7 +85,7 @@ def other_parts():
             yield question, probe.pack([words[0], len(parts) + extra, *words[2:], *more, *EMPTY]), [line, EMPTY_LINE]
         # the last part is the one that is left out: what stands for it is empty, of its own sort
         without = 0 if isinstance(parts[-1], int) else b"" if isinstance(parts[-1], bytes) else []
-        fewer = words[2:len(words) - len(probe.part_of(parts[-1]))]
+        fewer = words[2:len(words) - len(probe.part_of(probe.parts_of(question)[-1]))]
         yield question, probe.pack([words[0], len(parts) - 1, *fewer, *EMPTY]), [line_of((*question[:-1], without)), EMPTY_LINE]
 
 
@@ -94,7 +98,14 @@ def long_lines():
             words = probe.request_of(question)
             if len(words) <= WORDS_IN_FULL_INPUT:
                 yield ("decode", table, 3, size), probe.pack(words), [line_of(question)]
+    for size in (*range(21826, 21852), *range(43674, 43696), 4 * WORDS_IN_FULL_INPUT - 28):
+        buffer = bytes((7 * k + k // 256) & 0xFF for k in range(size))
+        for field in (POINT, 0):
+            question = ("text", field, 0xF8, buffer)
+            yield ("text", field, 0xF8, size), probe.request_bytes(question), [line_of(question)]
     long, short = ("decode", PRINTED, 3, [9] * 8000), ("decode", PRINTED, 3, [7] * 8)
+    texts = [("text", POINT, 0xF8, bytes(30000)), ("text", POINT, 0x10, b"abcdefgh"), ("text", POINT, 0, b""), ("text", POINT, 0, b"\xff" * 9)]
+    yield "a long text buffer, then short, then empty", probe.pack(words_of(texts)), [line_of(question) for question in texts]
     yield "long, then short, then empty", probe.pack(words_of([long, short, ("decode", [], 3, []), long])), \
         [line_of(question) for question in (long, short, ("decode", [], 3, []), long)]
 

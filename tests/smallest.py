@@ -21,19 +21,22 @@ from second.lines import line_of, mktree_text
 
 PAGE = "TABLES.md"
 
-# Document 01, "Causes, numbers, places": what each row lists in words, and the calls that give it; of cycles document 02's No. 3. A
-# comment in the page is a number and one of these.
+# Document 01, "Causes, numbers, places": what each row lists in words, and the calls that give it; of cycles and operands document 02's No. 3
+# and No. 7. A comment in the page is a number and one of these.
 FAULTS = {
     1: ["empty", "too long", "too long, reading", "first word, kind", "first word, spare bit", "first word, 257 entries", "first word, width 0",
         "first word, width 33", "bytes that are not whole words"],
-    2: ["wrong kind, entry", "wrong kind, field", "wrong kind, condition", "wrong kind, unmatching pattern", "spare bit, field", "spare bit, condition",
+    2: ["wrong kind, entry", "wrong kind, field", "wrong kind, condition", "wrong kind, unmatching pattern", "spare bit, field",
+        "spare bit, field whose form is 4 too", "wrong kind, a field's word by itself", "spare bit, a field's word by itself", "spare bit, condition",
         "spare bit, unmatching pattern", "count, 9 fields", "count, 9 conditions", "count, 9 unmatching patterns", "entry length, 0",
         "entry length, over the width", "table ends early", "words left over", "cycles over 65,535", "table ends before the cycles"],
     3: ["mask outside own bits, above the width", "mask outside own bits, below a short entry", "mask outside own bits, condition",
         "mask outside own bits, unmatching pattern", "value outside its mask", "value outside its mask, condition",
         "value outside its mask, unmatching pattern"],
     4: ["width 0", "outside own bits", "outside own bits, below a short entry", "overlapping the mask", "overlapping an earlier field",
-        "own bits not covered", "own bits not covered, with a field"],
+        "form over 2", "fraction bits over the width", "fraction bits over 16", "width 0, a field's word by itself", "width 33, a field's word by itself",
+        "form over 2, a field's word by itself", "fraction bits over 16, a field's word by itself", "own bits not covered",
+        "own bits not covered, with a field"],
     5: ["tree does not fit", "over 16,384", "over 16,384, sizing"],
     6: ["generating, by mktree", "generating", "sizing", "lookup", "decode"],
     7: ["lookup", "decode", "walk", "walk for C"],
@@ -43,13 +46,15 @@ FAULTS = {
         "one side below own + 2", "one side above the number of nodes", "kind, for C"],
     10: ["7 words", "no words"],
     11: ["no such entry", "too few values", "too many values", "no such entry, cycles"],
-    12: ["value does not fit", "value does not fit, the second"],
+    12: ["value does not fit", "value does not fit, the second", "stored value out of range", "number out of range, above", "number out of range, below",
+         "number out of range, plain and below zero", "stored value out of range, text"],
     13: ["selects another entry", "selects nothing", "ambiguous"],
     14: ["header", "widths", "damaged node", "one side not where the zero side ends", "a node not used", "a bit twice", "named entry, still open",
          "nothing, but an entry is live", "listing", "step"],
     15: ["width not 32", "a length not 16 or 32", "width not 32, step"],
     16: ["odd", "odd, step", "over 2,097,152 bytes"],
     17: ["no room at all", "earlier items"],
+    18: ["no bytes", "one byte too few"],
 }
 
 # What is returned with the number: a place, a word, or neither.
@@ -60,11 +65,12 @@ WORDS = {6, 13}
 FAULTY_TABLE = [1, 2, 3, 4]
 ALLOWED = {1: FAULTY_TABLE, 2: FAULTY_TABLE + [7, 6], 3: FAULTY_TABLE + [5, 6], 4: [8, 7, 9], 5: FAULTY_TABLE + [10, 7, 6],
            6: FAULTY_TABLE + [11, 12, 13], 7: FAULTY_TABLE + [14], 8: FAULTY_TABLE + [15, 16, 14], 9: FAULTY_TABLE + [15, 16, 14, 17],
-           10: [8, 7, 9], 12: FAULTY_TABLE + [5, 6], 13: FAULTY_TABLE + [11]}
-GENERATE, FOR_C, DECODE, LIST = 3, 4, 5, 9
+           10: [8, 7, 9], 12: FAULTY_TABLE + [5, 6], 13: FAULTY_TABLE + [11], 14: [2, 4, 12], 15: [2, 4, 12], 16: [2, 4, 12, 18]}
+GENERATE, FOR_C, DECODE, LIST, TEXT = 3, 4, 5, 9, 16
 MOST_TREE_WORDS = 16384
 
 MARKS = [0x5EED0000 + at for at in range(40)]
+BYTE_MARKS = bytes(range(0xC0, 0xF0))
 
 
 def stop(command, text):
@@ -161,9 +167,13 @@ def words_left(line):
 
 def check_left(request, question, cause, line):
     """"Left unchanged", for a buffer that the call may write to; 17 is in check_earlier. 1 if there is a buffer, else 0."""
-    if request not in (GENERATE, DECODE, LIST) or cause == 17:
+    if request not in (GENERATE, DECODE, LIST, TEXT) or cause == 17:
         return 0
     before = question[-1]
+    if request == TEXT:
+        if probe.bytes_left(line) != before:
+            raise ValueError("the bytes are changed")
+        return 1
     cleared = cause == 5 or cause == 6 and request == GENERATE
     if words_left(line) != ([0] * len(before) if cleared else before):
         raise ValueError("the buffer is not as it is to be")
@@ -193,8 +203,8 @@ class Case:
 
 def buffers_of(question):
     """The question as it stands, and with other words lent."""
-    written = question[0] in ("generate", "decode", "list")
-    return [question] + ([(*question[:-1], MARKS[:len(question[-1])])] if written else [])
+    marks = {"generate": MARKS, "decode": MARKS, "list": MARKS, "text": BYTE_MARKS}.get(question[0])
+    return [question] + ([(*question[:-1], marks[:len(question[-1])])] if marks else [])
 
 
 def probe_cases(command, cause, data):
@@ -293,7 +303,7 @@ def cases_of(path, command, cause, program, data):
 
 def check_complete(seen):
     """Every cause and every fault has its example, and there is none that nobody listed."""
-    for cause in range(1, 18):
+    for cause in FAULTS:
         if not any(number == cause for number, _ in seen):
             sys.exit(f"docs/{PAGE} has no example for number {cause}")
         for fault in FAULTS[cause]:

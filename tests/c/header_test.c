@@ -1,6 +1,6 @@
 /*
  * The header's names, accessors and helpers; compiled as C and as C++, linked with the library. Every number here is from
- * documents 01 and 02, and not taken from the header; where a size and cycles have their parts is from docs/FORMAT.md.
+ * documents 01 and 02, and not taken from the header; where sizes, cycles and operands have their parts is from docs/FORMAT.md.
  *
  * The table: width 32, entry 0 of 16 bits `1...`, entry 1 of 32 bits `01..`. Its tree tests bit 31, then bit 30. The one with cycles:
  * the same, 77 and 65,535 of them.
@@ -34,9 +34,10 @@ static void expect(const char *what, uint64_t seen, uint64_t wanted) {
 static void names(void) {
     static const int refusals[] = {KILNUMBER_NO_REFUSAL, KILNUMBER_TABLE_START, KILNUMBER_TABLE_WORD, KILNUMBER_TABLE_PATTERN,
                                    KILNUMBER_TABLE_FIELD, KILNUMBER_TREE_SIZE, KILNUMBER_AMBIGUOUS, KILNUMBER_HIGH_WORD,
-                                   KILNUMBER_TREE_HEADER, KILNUMBER_DAMAGED_NODE, KILNUMBER_NO_ENTRY, KILNUMBER_WRONG_TREE,
-                                   KILNUMBER_NO_IMAGE_TABLE, KILNUMBER_BAD_IMAGE, KILNUMBER_NO_ROOM};
-    static const int numbers[] = {0, 1, 2, 3, 4, 5, 6, 7, 8, 9, 11, 14, 15, 16, 17};
+                                   KILNUMBER_TREE_HEADER, KILNUMBER_DAMAGED_NODE, KILNUMBER_NO_ENTRY, KILNUMBER_OUT_OF_RANGE,
+                                   KILNUMBER_WRONG_TREE, KILNUMBER_NO_IMAGE_TABLE, KILNUMBER_BAD_IMAGE, KILNUMBER_NO_ROOM,
+                                   KILNUMBER_NO_TEXT_ROOM};
+    static const int numbers[] = {0, 1, 2, 3, 4, 5, 6, 7, 8, 9, 11, 12, 14, 15, 16, 17, 18};
     for (size_t at = 0; at < sizeof numbers / sizeof numbers[0]; at++)
         expect("a refusal's number", (uint64_t)refusals[at], (uint64_t)numbers[at]);
     expect("an item's kind", kilnumber_item_kind(0xc2a00005), KILNUMBER_INSTRUCTION);
@@ -130,6 +131,45 @@ static void cycles(const uint32_t *tree) {
     expect("nor does the tree", kilnumber_check(with_cycles, 11, tree, TREE_WORDS), 0);
 }
 
+/* Fields by themselves. Plain, signed and fixed point with 16 fraction bits, each of 32 bits; of eight bits, four of them after the point;
+ * a spare bit, and a form that there is not. */
+static const uint32_t plain = 0x30000020, two_s = 0x31000020, point = 0x32100020, gain = 0x32040008;
+static const uint32_t spare = 0x31010008, form_3 = 0x33000008;
+static const uint32_t top_bit = 0x80000000, all_bits = 0xffffffff;
+static const int64_t over = (int64_t)1 << 32;
+
+static void whole_numbers(void) {
+    uint64_t result = kilnumber_signed(gain, 0xf8);
+    expect("a number below zero", result, 0x100fffffff8);
+    expect("as itself", (uint64_t)kilnumber_signed_number(result), (uint64_t)-8);
+    expect("without refusal", kilnumber_number(result), 0);
+    expect("the lowest number", (uint64_t)kilnumber_signed_number(kilnumber_signed(two_s, top_bit)), (uint64_t)-2147483648LL);
+    expect("the highest number", (uint64_t)kilnumber_signed_number(kilnumber_signed(plain, all_bits)), 0xffffffff);
+    expect("12 alone", kilnumber_signed(gain, 0x100), (uint64_t)KILNUMBER_OUT_OF_RANGE << 32);
+    expect("a spare bit", kilnumber_signed(spare, 0), (uint64_t)KILNUMBER_TABLE_WORD << 32);
+    expect("a form over 2", kilnumber_signed(form_3, 0), (uint64_t)KILNUMBER_TABLE_FIELD << 32);
+    expect("its place", kilnumber_list_place(kilnumber_signed(form_3, 0)), 0);
+    expect("a value", kilnumber_stored(gain, -8), 0xf8);
+    expect("the highest value", kilnumber_stored_value(kilnumber_stored(two_s, -1)), 0xffffffff);
+    expect("a number over 32 bits", kilnumber_number(kilnumber_stored(plain, over)), 12);
+    expect("a number far below zero", kilnumber_number(kilnumber_stored(two_s, -over)), 12);
+}
+
+static void texts(void) {
+    uint8_t text[256];
+    size_t room = sizeof text;
+    memset(text, '*', sizeof text);
+    uint64_t result = kilnumber_text(gain, 0xf8, text, room);
+    expect("the length of a text", result, 7);
+    expect("how long it is", kilnumber_text_length(result), 7);
+    expect("the text, and the byte after it", (uint64_t)memcmp(text, "-0.5000*", 8), 0);
+    expect("room for every text", KILNUMBER_TEXT_ROOM, 28);
+    expect("the longest text", kilnumber_text(point, top_bit, text, KILNUMBER_TEXT_ROOM), 23);
+    expect("its bytes", (uint64_t)memcmp(text, "-32768.0000000000000000*", 24), 0);
+    expect("18 alone", kilnumber_text(point, top_bit, text, 22), (uint64_t)KILNUMBER_NO_TEXT_ROOM << 32);
+    expect("a length of all 32 bits", kilnumber_text_length(0x12345678), 0x12345678);
+}
+
 int main(void) {
     uint32_t tree[TREE_WORDS];
     names();
@@ -139,6 +179,8 @@ int main(void) {
     check(tree);
     list(tree);
     cycles(tree);
+    whole_numbers();
+    texts();
     printf("header good: %u compared\n", compared);
     return 0;
 }

@@ -1,5 +1,5 @@
 /*
- * Lends words to a call that only reads them: directly before a page that can't be touched, or directly after one. Whoever includes it
+ * Lends words or bytes to a call: directly before a page that can't be touched, or directly after one. Whoever includes it
  * defines _DEFAULT_SOURCE before its first #include, and includes words_file.h before it.
  */
 
@@ -32,13 +32,17 @@ static struct room make_room(void) {
     return room;
 }
 
-static const uint32_t *lend(struct room room, const uint32_t *words, size_t count, int at_start) {
-    uint8_t *to = at_start ? room.start : room.guard - 4 * count;
-    if (count > 0) memcpy(to, words, 4 * count);
-    return (const uint32_t *)(const void *)to;
+static uint8_t *lend_bytes(struct room room, const void *bytes, size_t count, int at_start) {
+    uint8_t *to = at_start ? room.start : room.guard - count;
+    if (count > 0) memcpy(to, bytes, count);
+    return to;
 }
 
-static void require_unchanged(const uint32_t *lent, const uint32_t *words, size_t count) {
+static inline const uint32_t *lend(struct room room, const uint32_t *words, size_t count, int at_start) {
+    return (const uint32_t *)(const void *)lend_bytes(room, words, 4 * count, at_start);
+}
+
+static inline void require_unchanged(const uint32_t *lent, const uint32_t *words, size_t count) {
     if (count == 0 || memcmp(lent, words, 4 * count) == 0) return;
     printf("difference: %zu words were lent, and they have changed\n", count);
     exit(1);

@@ -1,12 +1,12 @@
 /*
- * Hostile inputs for kilnumber_walk, kilnumber_mask, kilnumber_measure, kilnumber_check, kilnumber_list and kilnumber_cycles: what they
- * answer against reference.h, and whether they touch other memory.
+ * Hostile inputs for kilnumber_walk, kilnumber_mask, kilnumber_measure, kilnumber_check, kilnumber_list, kilnumber_cycles,
+ * kilnumber_signed, kilnumber_stored and kilnumber_text: what they answer against reference.h, and whether they touch other memory.
  *
- * Usage: fuzz trees lists sizes walks listings tables asked (files of tests/c/make_trees.py, make_lists.py and tests/c/make_sizes.py,
- * then how many walks, listings, sized tables and tables asked for cycles).
+ * Usage: fuzz trees lists sizes walks listings tables asked operands (files of tests/c/make_trees.py, make_lists.py and
+ * tests/c/make_sizes.py, then how many walks, listings, sized tables, tables asked for cycles and operands).
  * Inputs are altered at random; an input that came to a new place of the reference (check, index or tests passed) is kept and
  * altered further. Everything lent lies between pages that can't be touched, and must be unchanged afterwards.
- * With -DSTAND_IN there is no library but the reference itself, wrong in the way that an eighth argument numbers.
+ * With -DSTAND_IN there is no library but the reference itself, wrong in the way that a ninth argument numbers.
  */
 
 #define _DEFAULT_SOURCE
@@ -28,6 +28,7 @@
 #define MOST_SIZE_WORDS (MOST_TABLE_WORDS + 4)
 #define MOST_ALTERED_WORDS 512u  /* of a table that is sized: the reference takes long where there are many entries */
 #define MOST_KEPT_NODES 1000u
+#define MOST_TEXT_ROOM 600u
 #define MARK 0x5eed5eedu
 #define LONG_OFTEN 100u          /* every so many-th listing lends more than 2,097,152 bytes, sized table about 16,384 words */
 
@@ -79,17 +80,21 @@ static void require_same(const void *lent, const void *from, size_t bytes) {
 
 static unsigned wrong; /* a check that is left out, or one of these */
 enum {
-    LEAF_COUNTED = CYCLES_END + 1, READS_PAST, WRITES_TREE, MASK_FROM_ONE, MASK_WHEN_REFUSED, MASK_READS_PAST,
+    LEAF_COUNTED = NUMBER_END + 1, READS_PAST, WRITES_TREE, MASK_FROM_ONE, MASK_WHEN_REFUSED, MASK_READS_PAST,
     ITEM_AFTER, PLACE_AFTER, CHECK_IS_YES, CHECK_PLACE,
     SIZE_SWAPPED, SIZE_IN_WORDS, SIZE_LEAF_COUNTED, SIZE_NUMBER_ABOVE, SIZE_NO_WORD, SIZE_NO_PLACE, SIZE_LIMIT_LOWER, SIZE_READS_PAST,
     SIZE_READS_BEFORE, SIZE_WRITES_TABLE,
     CYCLES_OF_FIRST, CYCLES_OF_NEXT, CYCLES_LOW_BYTE, CYCLES_ENTRY_BYTE, CYCLES_AT_COUNT, CYCLES_NUMBER_ABOVE, CYCLES_NO_PLACE,
-    CYCLES_PLACE_OF_11, CYCLES_READS_PAST, CYCLES_READS_BEFORE, CYCLES_WRITES_TABLE, LAST_WRONG
+    CYCLES_PLACE_OF_11, CYCLES_READS_PAST, CYCLES_READS_BEFORE, CYCLES_WRITES_TABLE,
+    SIGN_LEFT_OUT, SIGN_IN_ALL, NUMBER_ABOVE, NUMBER_PLACE, LOWEST_JUDGED, RANGE_FIRST, STORED_LOW_HALF, STORED_SIGN_IN_ALL,
+    TEXT_ENDED, TEXT_BLANKS, TEXT_LENGTH_MORE, TEXT_ROOM_BYTE, TEXT_ROOM_FIRST, TEXT_ROOM_MORE, TEXT_ZEROS_REFUSED, TEXT_PAST,
+    TEXT_BEFORE, LAST_WRONG
 };
 
-/* Then only sizes or only cycles can differ, and only these are tried. */
+/* Then only sizes, only cycles or only operands can differ, and only these are tried. */
 static int is_wrong_size(void) { return (wrong > LIST_END && wrong < SIZE_END) || (wrong >= SIZE_SWAPPED && wrong < CYCLES_OF_FIRST); }
-static int is_wrong_cycles(void) { return (wrong > SIZE_END && wrong < CYCLES_END) || wrong >= CYCLES_OF_FIRST; }
+static int is_wrong_cycles(void) { return (wrong > SIZE_END && wrong < CYCLES_END) || (wrong >= CYCLES_OF_FIRST && wrong < SIGN_LEFT_OUT); }
+static int is_wrong_operand(void) { return (wrong > CYCLES_END && wrong < NUMBER_END) || wrong >= SIGN_LEFT_OUT; }
 
 #ifdef STAND_IN
 uint64_t kilnumber_walk(const uint8_t *tree, size_t length, uint32_t word) {
@@ -158,6 +163,54 @@ uint64_t kilnumber_cycles(const uint32_t *table, size_t table_words, uint32_t en
     if (wrong == CYCLES_PLACE_OF_11 && number == 11) result |= entry;
     return result;
 }
+
+/* The word's own fault, where a wrong one finds another than the reference. */
+static struct operand wrong_operand(uint32_t field, uint32_t value) {
+    struct operand operand = operand_of(field, (enum check)wrong);
+    if (wrong == LOWEST_JUDGED && operand.number == 0 && (field >> 8 & 0xff) + operand.width > 32) operand.number = 4;
+    if (wrong == RANGE_FIRST && value >= (uint64_t)1 << operand.width) operand.number = 12;
+    return operand;
+}
+
+static uint64_t wrong_refusal(uint64_t result, uint32_t field) {
+    uint64_t number = result >> 32 & 0xff;
+    if (wrong == NUMBER_ABOVE && number != 0) return number << 48;
+    if (wrong == NUMBER_PLACE && number != 0) return number << 32 | field;
+    return result;
+}
+
+uint64_t kilnumber_signed(uint32_t field, uint32_t value) {
+    struct operand operand = wrong_operand(field, value);
+    uint64_t result = reference_signed(&operand, value);
+    int below_zero = (result >> 40 & 1) != 0;
+    if (wrong == SIGN_LEFT_OUT && below_zero) result &= 0xffffffff;
+    if (wrong == SIGN_IN_ALL && below_zero) result |= 0xffffffff00000000;
+    return wrong_refusal(result, field);
+}
+
+uint64_t kilnumber_stored(uint32_t field, int64_t number) {
+    struct operand operand = wrong_operand(field, 0);
+    if (wrong == STORED_LOW_HALF) number = (int64_t)((uint64_t)number & 0xffffffff);
+    uint64_t result = reference_stored(&operand, number);
+    if (wrong == STORED_SIGN_IN_ALL && result >> 32 == 0) result = (uint32_t)number;
+    return wrong_refusal(result, field);
+}
+
+uint64_t kilnumber_text(uint32_t field, uint32_t value, uint8_t *text, size_t room) {
+    struct operand operand = wrong_operand(field, value);
+    if (wrong == TEXT_ROOM_BYTE) room &= 0xff;
+    if (wrong == TEXT_ROOM_FIRST && room == 0) return refused_list(18, 0);
+    if (wrong == TEXT_ROOM_MORE) room -= room > 0;
+    if (wrong == TEXT_PAST) ((volatile uint8_t *)text)[room] ^= 0;
+    if (wrong == TEXT_BEFORE) ((volatile uint8_t *)text)[-1] ^= 0;
+    uint64_t result = reference_text(&operand, value, text, room);
+    int written = result >> 32 == 0;
+    if (wrong == TEXT_ZEROS_REFUSED && !written) memset(text, 0, room);
+    if (wrong == TEXT_ENDED && written && result < room) text[result] = 0;
+    if (wrong == TEXT_BLANKS && written) memset(text + result, ' ', room - result);
+    if (wrong == TEXT_LENGTH_MORE && written) result++;
+    return wrong_refusal(result, field);
+}
 #endif
 
 /* ------------------------------------------------------------------------- inputs that are kept */
@@ -170,7 +223,8 @@ struct input {
 static struct input kept[MOST_KEPT];
 static size_t kept_count;
 static uint64_t walks, listings, sizes, asked, by_number[10], by_list_number[18], by_check_number[18], by_size_number[7],
-    by_cycles_number[12], by_check[CYCLES_END + 1], listed_of_6, sized_of_6; /* the last two: without refusal, of kind 6 */
+    by_cycles_number[12], operands, by_operand_number[19], by_check[NUMBER_END + 1], listed_of_6, sized_of_6, listed_with_form,
+    sized_with_form; /* the last four: without refusal, of kind 6, with a form */
 
 static void keep(const uint8_t *bytes, size_t length) {
     if (kept_count == MOST_KEPT) return;
@@ -360,6 +414,32 @@ static size_t alter_cycles(uint32_t *words, size_t count, size_t most) {
     }
 }
 
+/* Gives a field of a table without fault another form: one that it may have, mostly, or one that is at fault. */
+static void alter_form(uint32_t *words, size_t count) {
+    struct table table = table_of(words, count, NONE);
+    if (!read_table(&table) || table.entries == 0) return;
+    const uint32_t *entry = entry_at(&table, below(table.entries));
+    uint32_t fields = entry[0] >> 4 & 15;
+    if (fields == 0) return;
+    uint32_t *field = words + (entry - table.words) + 3 + table.has_cycles + below(fields), size = *field & 0xff;
+    uint32_t edges[] = {0, 1, size, size + 1, 16, 17, below(size + 1), below(256)}, edge = edges[below(8)];
+    uint32_t fraction = below(3) == 0 ? edge : at_most(edge, at_most(size, 16));
+    uint32_t form = below(8) == 0 ? below(16) : below(3);
+    *field = (*field & 0xf000ffff) | form << 24 | (form == 2 || below(8) == 0 ? fraction : 0) << 16;
+}
+
+/* Whether a table without fault has a field with a form. */
+static int has_form(const uint32_t *words, size_t count) {
+    struct table table = table_of(words, count, NONE);
+    read_table(&table);
+    for (uint32_t turn = 0; turn < table.entries; turn++) {
+        const uint32_t *entry = entry_at(&table, turn);
+        for (uint32_t at = 0; at < (entry[0] >> 4 & 15); at++)
+            if ((entry[3 + table.has_cycles + at] >> 16 & 0xfff) != 0) return 1;
+    }
+    return 0;
+}
+
 /* Puts a word in at an index from 1 on and moves the later ones; the tests still lead to where they led. The new count. */
 static size_t put_in(uint32_t *tree, size_t count, size_t index, uint32_t word) {
     if (count + 1 > MOST_LIST_WORDS || index > count || count < 2) return count;
@@ -392,9 +472,10 @@ static size_t alter_shape(uint32_t *tree, size_t count) {
 
 static void alter_listing(struct listing *listing) {
     struct lent *lent = &listing->lent;
-    switch (below(10)) {
+    switch (below(11)) {
     case 5:
     case 6: lent->tree_words = alter_shape(listing->tree, lent->tree_words); break;
+    case 8: alter_form(listing->table, lent->table_words); break;
     case 7: lent->table_words = alter_cycles(listing->table, lent->table_words, MOST_LIST_WORDS); break;
     case 0: lent->table_words = alter_words(listing->table, lent->table_words, 0); break;
     case 1: lent->tree_words = alter_words(listing->tree, lent->tree_words, 1); break;
@@ -453,6 +534,7 @@ static void compare_listing(struct listing *listing, int too_long) {
     listings++;
     by_list_number[expected >> 32]++;
     listed_of_6 += expected >> 32 == 0 && lent.table[0] >> 28 == 6;
+    listed_with_form += expected >> 32 == 0 && has_form(lent.table, lent.table_words);
     by_check[stopped_by]++;
     /* What is altered further of a table at fault is mostly at the same fault. */
     int good_table = expected >> 32 == 0 || expected >> 32 >= 14;
@@ -499,14 +581,14 @@ static uint32_t *some_pattern(const struct table *table, uint32_t *entry) {
 }
 
 /* Alters a table without fault so that mostly it has none afterwards: another value, another mask in a condition, an entry less, twice,
- * or those of another table of the kind; or its cycles. The new count. */
+ * or those of another table of the kind; its cycles, or a form. The new count. */
 static size_t alter_table(uint32_t *words, size_t count) {
     struct table table = table_of(words, count, NONE);
     if (!read_table(&table) || table.entries == 0) return alter_words(words, count, 0);
     uint32_t chosen = below(table.entries);
     uint32_t *entry = words + table.places[chosen], *pattern = some_pattern(&table, entry);
     size_t from = table.places[chosen], end = chosen + 1 < table.entries ? table.places[chosen + 1] : count;
-    switch (below(7)) {
+    switch (below(8)) {
     case 0:
     case 1: pattern[1] ^= pattern[0] & any() & any(); return count;
     case 2: /* a condition's mask may be any of the own bits */
@@ -524,6 +606,7 @@ static size_t alter_table(uint32_t *words, size_t count) {
         words[0] += 0x10000;
         return count + (end - from);
     case 5: return alter_cycles(words, count, MOST_ALTERED_WORDS);
+    case 6: alter_form(words, count); return count;
     default: { /* all the entries of another table of the kind and width */
         struct words other = tables[below((uint32_t)table_count)];
         if (other.count < 2 || ((other.words[0] ^ words[0]) & 0xf00000ff) != 0 || count + other.count - 1 > MOST_ALTERED_WORDS) return count;
@@ -578,6 +661,7 @@ static void compare_size(const uint32_t *words, size_t count) {
     sizes++;
     by_size_number[expected >> 32]++;
     sized_of_6 += expected >> 32 == 0 && words[0] >> 28 == 6;
+    sized_with_form += expected >> 32 == 0 && has_form(words, count);
     for (int check = LIST_END + 1; check < SIZE_END; check++) by_check[check] += sizing.table.came >> check & 1;
     /* As with listings, a table at fault is not altered further. Nor is one with a large tree, which takes long. */
     if ((expected >> 32 != 0 && expected >> 32 != 6) || sizing.nodes > MOST_KEPT_NODES) return;
@@ -629,6 +713,84 @@ static void compare_cycles(const uint32_t *words, size_t count) {
 static void fuzz_cycles(uint64_t count) {
     static uint32_t words[MOST_SIZE_WORDS];
     while (asked < count) compare_cycles(words, some_table(words));
+}
+
+/* ------------------------------------------------------------------------- operands */
+
+/* A field's word that has no fault or nearly none, or any word. */
+static uint32_t some_field(void) {
+    static const uint32_t widths[] = {0, 1, 2, 15, 16, 17, 31, 32, 33, 64, 255};
+    uint32_t width = below(4) == 0 ? widths[below(sizeof widths / sizeof widths[0])] : 1 + below(32), form = below(3);
+    uint32_t most = at_most(width, 16) + 2 * (below(4) == 0), fraction = form == 2 ? below(most + 1) : 0;
+    uint32_t field = 3u << 28 | form << 24 | fraction << 16 | below(below(2) == 0 ? 256 : 32) << 8 | width;
+    if (below(16) == 0) return any();
+    return below(4) == 0 ? field ^ 1u << below(32) : field;
+}
+
+/* Mostly one of the field's values, or one near the ends of its range. */
+static uint32_t some_value(uint32_t field) {
+    uint32_t width = at_most(field & 0xff, 32), value = (uint32_t)(any() & (((uint64_t)1 << width) - 1));
+    switch (below(6)) {
+    case 0: return any();
+    case 1: return (uint32_t)(((uint64_t)1 << width) + below(3) - 1);
+    case 2: return (uint32_t)((((uint64_t)1 << width) >> 1) + below(3) - 1);
+    case 3: return below(3);
+    default: return value;
+    }
+}
+
+/* Mostly one of the field's numbers; one near the ends of their range; or one that is another in its lower bits. */
+static int64_t some_number(uint32_t field) {
+    int64_t width = at_most(field & 0xff, 32), end = (int64_t)1 << width, sign = below(2) == 0 ? 1 : -1, near = (int64_t)below(3) - 1;
+    switch (below(8)) {
+    case 0: return sign * (int64_t)((uint64_t)any() * any() / 2);
+    case 1: return sign * end + near;
+    case 2: return sign * (end / 2) + near;
+    case 3: return sign * ((int64_t)1 << 32) + (int64_t)some_value(field);
+    case 4: return below(2) == 0 ? INT64_MAX : INT64_MIN;
+    case 5: return sign * (int64_t)some_value(field);
+    default: return (int64_t)some_value(field) - (below(2) == 0 ? end : 0);
+    }
+}
+
+static void operand_difference(const char *what, uint32_t field, int64_t given, uint64_t expected, uint64_t seen) {
+    printf("fuzz: %s of field %08x, %lld: expected %016llx, seen %016llx\n", what, (unsigned)field, (long long)given,
+           (unsigned long long)expected, (unsigned long long)seen);
+    exit(1);
+}
+
+static void count_operand(struct operand operand) {
+    by_operand_number[operand.number]++;
+    for (int check = CYCLES_END + 1; check < NUMBER_END; check++) by_check[check] += operand.came >> (check - CYCLES_END) & 1;
+}
+
+static void compare_text(uint32_t field, uint32_t value, struct area area) {
+    static uint8_t wanted[MOST_TEXT_ROOM], before[MOST_TEXT_ROOM];
+    size_t room = below(8) == 0 ? below(MOST_TEXT_ROOM) : below(30);
+    for (size_t at = 0; at < room; at++) wanted[at] = before[at] = (uint8_t)(0x80 | at % 128);
+    uint8_t *lent = lend(area, before, room, below(4) == 0);
+    struct operand operand = operand_of(field, NONE);
+    uint64_t expected = reference_text(&operand, value, wanted, room), seen = kilnumber_text(field, value, lent, room);
+    if (seen != expected) operand_difference("the text", field, value, expected, seen);
+    if (memcmp(lent, wanted, room) != 0) operand_difference("the bytes of the text", field, value, expected, seen);
+    count_operand(operand);
+}
+
+static void fuzz_operands(uint64_t count) {
+    struct area area = make_area(MOST_TEXT_ROOM);
+    for (; operands < count; operands++) {
+        uint32_t field = some_field(), value = some_value(field);
+        int64_t number = some_number(field);
+        struct operand one = operand_of(field, NONE), other = one;
+        uint64_t expected = reference_signed(&one, value), seen = kilnumber_signed(field, value);
+        if (seen != expected) operand_difference("the number", field, value, expected, seen);
+        expected = reference_stored(&other, number);
+        seen = kilnumber_stored(field, number);
+        if (seen != expected) operand_difference("the value", field, number, expected, seen);
+        count_operand(one);
+        count_operand(other);
+        compare_text(field, value, area);
+    }
 }
 
 /* ------------------------------------------------------------------------- files */
@@ -707,10 +869,10 @@ static double seconds(void) {
 static void require_each(uint64_t least) {
     static const char *const names[] = {"finished",
 #define NAME(check) #check,
-        WALK_CHECKS(NAME) "", LIST_CHECKS(NAME) "ends early", SIZE_CHECKS(NAME) "", CYCLES_CHECKS(NAME) ""};
+        WALK_CHECKS(NAME) "", LIST_CHECKS(NAME) "ends early", SIZE_CHECKS(NAME) "", CYCLES_CHECKS(NAME) "", NUMBER_CHECKS(NAME) ""};
 #undef NAME
-    for (int check = NONE; check < CYCLES_END; check++)
-        if (check != WALK_END && check != SIZE_END && by_check[check] < least) {
+    for (int check = NONE; check < NUMBER_END; check++)
+        if (check != WALK_END && check != SIZE_END && check != CYCLES_END && by_check[check] < least) {
             printf("fuzz: only %llu inputs came to %s\n", (unsigned long long)by_check[check], names[check]);
             exit(1);
         }
@@ -720,20 +882,25 @@ static void require_each(uint64_t least) {
         if (by_size_number[number] < least) stop("too few sizes of a number");
     for (int number = 0; number <= 11; number = number == 4 ? 11 : number + 1)
         if (by_cycles_number[number] < least) stop("too few cycles of a number");
+    static const int operand_numbers[] = {0, 2, 4, 12, 18};
+    for (int at = 0; at < 5; at++)
+        if (by_operand_number[operand_numbers[at]] < 100 * least) stop("too few operands of a number");
     if (listed_of_6 < 10 * least || sized_of_6 < 10 * least) stop("too few tables of kind 6");
+    if (listed_with_form < 10 * least || sized_with_form < 10 * least) stop("too few tables with a form");
 }
 
 int main(int arguments, char **argument) {
-    if (arguments < 8) stop("usage: fuzz trees lists sizes walks listings tables asked");
-    wrong = arguments > 8 ? (unsigned)atoi(argument[8]) : 0;
-    if (wrong >= LAST_WRONG) return 3;                                                                      /* the end of the row */
-    if (wrong == WALK_END || wrong == LIST_END || wrong == SIZE_END || wrong == CYCLES_END) return 4;       /* no way to be wrong */
+    if (arguments < 9) stop("usage: fuzz trees lists sizes walks listings tables asked operands");
+    wrong = arguments > 9 ? (unsigned)atoi(argument[9]) : 0;
+    if (wrong >= LAST_WRONG) return 3;                                                  /* the end of the row */
+    if (wrong == WALK_END || wrong == LIST_END || wrong == SIZE_END || wrong == CYCLES_END || wrong == NUMBER_END)
+        return 4;                                                                       /* no way to be wrong */
     read_trees(argument[1]);
     read_lists(argument[2]);
     read_sizes(argument[3]);
     words_area = make_area(4 * MOST_SIZE_WORDS);
     size_t given = kept_count, given_lists = list_count, given_tables = table_count;
-    int others = !is_wrong_size() && !is_wrong_cycles();
+    int others = !is_wrong_size() && !is_wrong_cycles() && !is_wrong_operand();
     double start = seconds();
     if (others) fuzz_walks(strtoull(argument[4], NULL, 10));
     double walked = seconds();
@@ -742,26 +909,33 @@ int main(int arguments, char **argument) {
     if (wrong == 0 || is_wrong_size()) fuzz_sizes(strtoull(argument[6], NULL, 10));
     double sized = seconds();
     if (wrong == 0 || is_wrong_cycles()) fuzz_cycles(strtoull(argument[7], NULL, 10));
+    double answered = seconds();
+    if (wrong == 0 || is_wrong_operand()) fuzz_operands(strtoull(argument[8], NULL, 10));
     double ended = seconds();
-    if (arguments < 9) require_each(10);
-    printf("fuzz: walks finished: %llu, number 7: %llu, 8: %llu, 9: %llu; listings whole: %llu (of kind 6: %llu), number 1 to 4: %llu, "
-           "14: %llu, 15: %llu, 16: %llu, 17: %llu\n", (unsigned long long)by_number[0], (unsigned long long)by_number[7],
-           (unsigned long long)by_number[8], (unsigned long long)by_number[9], (unsigned long long)by_list_number[0],
-           (unsigned long long)listed_of_6,
+    if (arguments < 10) require_each(10);
+    printf("fuzz: walks finished: %llu, number 7: %llu, 8: %llu, 9: %llu; listings whole: %llu (of kind 6: %llu, with a form: %llu), "
+           "number 1 to 4: %llu, 14: %llu, 15: %llu, 16: %llu, 17: %llu\n",
+           (unsigned long long)by_number[0], (unsigned long long)by_number[7], (unsigned long long)by_number[8],
+           (unsigned long long)by_number[9], (unsigned long long)by_list_number[0],
+           (unsigned long long)listed_of_6, (unsigned long long)listed_with_form,
            (unsigned long long)(by_list_number[1] + by_list_number[2] + by_list_number[3] + by_list_number[4]),
            (unsigned long long)by_list_number[14], (unsigned long long)by_list_number[15], (unsigned long long)by_list_number[16],
            (unsigned long long)by_list_number[17]);
-    printf("fuzz: sizes: %llu (of kind 6: %llu), number 1 to 4: %llu, 5: %llu, 6: %llu; cycles: %llu, number 1 to 4: %llu, 11: %llu\n",
-           (unsigned long long)by_size_number[0], (unsigned long long)sized_of_6,
+    printf("fuzz: sizes: %llu (of kind 6: %llu, with a form: %llu), number 1 to 4: %llu, 5: %llu, 6: %llu; cycles: %llu, "
+           "number 1 to 4: %llu, 11: %llu\n",
+           (unsigned long long)by_size_number[0], (unsigned long long)sized_of_6, (unsigned long long)sized_with_form,
            (unsigned long long)(by_size_number[1] + by_size_number[2] + by_size_number[3] + by_size_number[4]),
            (unsigned long long)by_size_number[5], (unsigned long long)by_size_number[6], (unsigned long long)by_cycles_number[0],
            (unsigned long long)(by_cycles_number[1] + by_cycles_number[2] + by_cycles_number[3] + by_cycles_number[4]),
            (unsigned long long)by_cycles_number[11]);
+    printf("fuzz: operands: %llu, number 2: %llu, 4: %llu, 12: %llu, 18: %llu\n", (unsigned long long)by_operand_number[0],
+           (unsigned long long)by_operand_number[2], (unsigned long long)by_operand_number[4], (unsigned long long)by_operand_number[12],
+           (unsigned long long)by_operand_number[18]);
     printf("fuzz good: %llu walks and masks in %.1f s, %llu listings and as many checks in %.1f s, %llu tables sized in %.1f s, "
-           "%llu asked for cycles in %.1f s; differences 0, faults 0; kept %zu trees over %zu given, %zu listings over %zu, "
-           "%zu tables over %zu\n",
+           "%llu asked for cycles in %.1f s, %llu operands in %.1f s; differences 0, faults 0; kept %zu trees over %zu given, "
+           "%zu listings over %zu, %zu tables over %zu\n",
            (unsigned long long)walks, walked - start, (unsigned long long)listings, listed - walked, (unsigned long long)sizes, sized - listed,
-           (unsigned long long)asked, ended - sized, kept_count - given, given, list_count - given_lists, given_lists,
-           table_count - given_tables, given_tables);
+           (unsigned long long)asked, answered - sized, (unsigned long long)operands, ended - answered,
+           kept_count - given, given, list_count - given_lists, given_lists, table_count - given_tables, given_tables);
     return 0;
 }

@@ -102,13 +102,14 @@ def random_bytes(rng):
 
 def small_words(rng):
     """Words that are likely to be numbers of requests and small counts."""
-    words = [rng.choice([rng.randrange(15), rng.randrange(6), 0, 1, rng.getrandbits(32)]) for _ in range(rng.randrange(40))]
+    words = [rng.choice([rng.randrange(19), rng.randrange(6), 0, 1, rng.getrandbits(32)]) for _ in range(rng.randrange(40))]
     return probe.pack(words) + rng.randbytes(rng.choice([0, 0, 0, 1, 3]))
 
 
 def some_request(rng):
     """A request's words; now and then with a part more or less, or one that ends within a word."""
-    name, *parts = some_question(rng)
+    question = some_question(rng)
+    number, parts = probe.NAMES.index(question[0]) + 1, probe.parts_of(question)
     how = rng.randrange(8)
     if how == 0:
         parts += [rng.randbytes(rng.randrange(6)) for _ in range(rng.randrange(9))]
@@ -118,7 +119,7 @@ def some_request(rng):
         at = rng.randrange(len(parts))
         part = parts[at] if isinstance(parts[at], bytes) else probe.pack(parts[at] if isinstance(parts[at], list) else [parts[at]])
         parts[at] = part + rng.randbytes(rng.randint(1, 3))
-    return probe.request_of((name, *parts))
+    return [number, len(parts), *(word for part in parts for word in probe.part_of(part))]
 
 
 def some_table(rng):
@@ -132,7 +133,19 @@ def some_table(rng):
     return twin
 
 
+def some_operand(rng):
+    """A field's word by itself, which may be at fault, and what is asked of it."""
+    width = rng.choice([1, 8, 8, 16, 32, rng.randrange(36)])
+    field = 3 << 28 | rng.choice([0, 1 << 24, 2 << 24 | rng.randrange(18) << 16]) | rng.getrandbits(8) << 8 | width
+    field ^= rng.choice([0, 0, 0, 1 << rng.randrange(32)])
+    value = rng.choice([0, rng.getrandbits(width), rng.getrandbits(32)])
+    number = rng.choice([-1, 1]) * rng.choice([value, rng.getrandbits(8), rng.getrandbits(63)])
+    return rng.choice([("signed", field, value), ("stored", field, number), ("text", field, value, rng.randbytes(rng.randrange(40)))])
+
+
 def some_question(rng):
+    if rng.random() < 0.2:
+        return some_operand(rng)
     if rng.random() < 0.6:
         return rng.choice(QUESTIONS)
     table = some_table(rng)
@@ -143,7 +156,7 @@ def some_question(rng):
 
 def some_word(rng):
     """Numbers and counts near a limit, or that a part of a word would take for another."""
-    return rng.choice([0, 1, 5, 13, 14, 0x101, 0x10002, 0x3FFFFFFF, 0x40000001, 0x40000005, 0x7FFFFFFF, 0x80000000, 0xFFFFFFFC,
+    return rng.choice([0, 1, 5, 13, 14, 16, 17, 0x101, 0x10002, 0x3FFFFFFF, 0x40000001, 0x40000005, 0x7FFFFFFF, 0x80000000, 0xFFFFFFFC,
                        0xFFFFFFFF, rng.getrandbits(32), rng.randrange(20)])
 
 
@@ -211,15 +224,16 @@ def main():
         tally["streams"] += 1
         tally["lines"] += len(seen)
         tally["cycles"] += sum(line.startswith("13 0 ") for line in expected)
+        tally["operands"] += sum(line.startswith(("14 0 ", "15 0 ", "16 0 ")) for line in expected)
         tally["stopped" if expected and expected[-1].startswith("stopped") else "ended"] += 1
         for mistake in set(MISTAKES) - noticed:
             if framed(data, mistake) != framed(data):
                 noticed.add(mistake)
     if len(noticed) < len(MISTAKES):
         sys.exit(f"no stream shows: {sorted(set(MISTAKES) - noticed)}")
-    probe.require_enough(tally, {"stopped": count // 4, "ended": count // 10, "lines": count, "cycles": count // 40})
-    print(f"probe_fuzz good: {tally['streams']} streams, {tally['lines']} lines, {tally['cycles']} of cycles; stopped: {tally['stopped']}, whole: {tally['ended']}; "
-          f"faults 0; {len(noticed)} of {len(MISTAKES)} mistakes noticed")
+    probe.require_enough(tally, {"stopped": count // 4, "ended": count // 10, "lines": count, "cycles": count // 40, "operands": count // 40})
+    print(f"probe_fuzz good: {tally['streams']} streams, {tally['lines']} lines, {tally['cycles']} of cycles, {tally['operands']} of operands; "
+          f"stopped: {tally['stopped']}, whole: {tally['ended']}; faults 0; {len(noticed)} of {len(MISTAKES)} mistakes noticed")
 
 
 if __name__ == "__main__":

@@ -1,9 +1,10 @@
 /*
- * The walk, the check and the listing of document 01, and the mask, the size and the cycles of document 02, written from these papers
- * alone, for fuzz.c. Sentences in quotes are the papers'.
+ * The walk, the check and the listing of document 01, and the mask, the size, the cycles and the operands of document 02, written from
+ * these papers alone, for fuzz.c. Sentences in quotes are the papers'.
  *
  * Each check has a name, and a check is left out where its name is `without`: so the same text is the reference (NONE) and a row of
- * wrong ones, and the checks that a walk came by say how far an input got. For a size and for cycles the names are parts of the rule.
+ * wrong ones, and the checks that a walk came by say how far an input got. For a size, for cycles and for operands the names are parts
+ * of the rule.
  */
 
 #ifndef REFERENCE_H
@@ -11,19 +12,25 @@
 
 #include <stddef.h>
 #include <stdint.h>
+#include <string.h>
 
 #define WALK_CHECKS(X)                                                                                                       \
     X(LENGTH_OF_FOUR) X(HEADER_KIND) X(HEADER_SPARE) X(WIDTH_LEAST) X(WIDTH_MOST) X(NODES_LEAST) X(NODES_MOST) X(WORD_HIGH)    \
     X(NODE_KIND) X(TEST_SPARE) X(TEST_BIT) X(ONE_SIDE_LEAST) X(ONE_SIDE_MOST) X(ENTRY_SPARE) X(NOTHING_SPARE)
 #define LIST_CHECKS(X)                                                                                                       \
-    X(TABLE_FIRST) X(TABLE_KIND) X(TABLE_COUNT) X(TABLE_LENGTH) X(PATTERN_OWN) X(PATTERN_VALUE) X(FIELD_PLACE) X(FIELD_OVERLAP) \
-    X(COVER) X(LEFT_OVER) X(IMAGE_WIDTH) X(IMAGE_LENGTH) X(IMAGE_ODD) X(IMAGE_LONG) X(TREE_WIDTH) X(TREE_DAMAGED)             \
+    X(TABLE_FIRST) X(TABLE_KIND) X(TABLE_COUNT) X(TABLE_LENGTH) X(PATTERN_OWN) X(PATTERN_VALUE) X(FIELD_SPARE) X(FIELD_FORM)   \
+    X(FIELD_FRACTION) X(FRACTION_OVER) X(FIELD_PLACE) X(FIELD_OVERLAP) X(COVER) X(LEFT_OVER) X(IMAGE_WIDTH) X(IMAGE_LENGTH)    \
+    X(IMAGE_ODD) X(IMAGE_LONG) X(TREE_WIDTH) X(TREE_DAMAGED)                                                                 \
     X(BIT_TWICE) X(ONE_SIDE_BEGINS) X(ALL_USED) X(NAMED_STEP) X(NOTHING_STEP) X(NO_ROOM) X(LAST_HALF)
 #define SIZE_CHECKS(X)                                                                                                       \
     X(TREE_LIMIT) X(FIT_FIRST) X(CONFLICT) X(FIRST_CONFLICT) X(DEEPEST) X(HIGHEST_ON_TIE) X(MOST_MASKS) X(HIGHEST_UNFIXED)      \
     X(UNMATCHING_TOO) X(CYCLES_ASIDE)
 #define CYCLES_CHECKS(X)                                                                                                     \
     X(CYCLES_HIGH) X(AFTER_VALUE) X(BEFORE_FIELDS) X(KIND_ONE_ZERO) X(NO_SUCH_ENTRY) X(FAULTS_FIRST)
+#define NUMBER_CHECKS(X)                                                                                                     \
+    X(WORD_KIND) X(WORD_SPARE) X(WORD_WIDTH_LEAST) X(WORD_WIDTH_MOST) X(WORD_FORM) X(WORD_FRACTION) X(WORD_FRACTION_OVER)      \
+    X(VALUE_HIGH) X(NUMBER_LEAST) X(NUMBER_MOST) X(SIGNED_SIGN) X(POINT_SIGN) X(MINUS) X(NO_LEADING) X(ONE_DIGIT) X(ALL_DIGITS) \
+    X(NO_POINT) X(TEXT_ROOM)
 
 enum check {
     NONE,
@@ -31,10 +38,11 @@ enum check {
     WALK_CHECKS(NAME) WALK_END,
     LIST_CHECKS(NAME) LIST_END,
     SIZE_CHECKS(NAME) SIZE_END,
-    CYCLES_CHECKS(NAME) CYCLES_END
+    CYCLES_CHECKS(NAME) CYCLES_END,
+    NUMBER_CHECKS(NAME) NUMBER_END
 #undef NAME
 };
-_Static_assert(CYCLES_END < 64, "the checks have a bit each in `came`");
+_Static_assert(CYCLES_END < 64, "the checks have a bit each in a table's `came`");
 
 #define MOST_STEPS 200000u /* only a wrong walk, which may go round in circles, comes to it */
 #define MOST_TABLE_WORDS 16384u
@@ -170,11 +178,22 @@ static int read_pattern(struct table *table, uint32_t own) {
     return 1;
 }
 
+/* Document 02, No. 7: "bits 23-16 stay spare for all other forms" than 2; "A form over 2, or fraction bits over 16 or over the field's
+ * width, gives 4." */
+static int read_form(struct table *table, uint32_t head, size_t place) {
+    uint32_t form = head >> 24 & 15, fraction = head >> 16 & 0xff;
+    if (form != 2 && fraction != 0 && table_fault(table, FIELD_SPARE, 2, place)) return 0;
+    if (form > 2 && table_fault(table, FIELD_FORM, 4, place)) return 0;
+    if (fraction > 16 && table_fault(table, FIELD_FRACTION, 4, place)) return 0;
+    return fraction <= (head & 0xff) || !table_fault(table, FRACTION_OVER, 4, place);
+}
+
 static int read_field(struct table *table, uint32_t own, uint32_t *covered) {
     if (ends_early(table)) return 0;
     size_t place = table->next++;
     uint32_t head = table->words[place], lowest = head >> 8 & 0xff, size = head & 0xff;
-    if (head >> 16 != 0x3000 && table_fault(table, TABLE_KIND, 2, place)) return 0;
+    if (head >> 28 != 3 && table_fault(table, TABLE_KIND, 2, place)) return 0;
+    if (!read_form(table, head, place)) return 0;
     if (size == 0 || lowest + size > 32 || (span(lowest, size) & ~own) != 0) {
         if (table_fault(table, FIELD_PLACE, 4, place)) return 0;
         return 1;
@@ -468,6 +487,115 @@ static uint64_t reference_cycles(struct table *table, uint32_t entry) {
     /* A wrong one takes the word after the value for cycles, where there is one. */
     int has_cycles = table->has_cycles || (!keeps(table, KIND_ONE_ZERO) && table->places[entry] + 3 < table->count);
     return has_cycles ? entry_at(table, entry)[3] : 0;
+}
+
+/* ------------------------------------------------------------------------- operands */
+
+#define MOST_WRONG_BITS 40u /* what a wrong one takes of a width or of fraction bits, so that it stays inside its numbers */
+#define MOST_DIGITS (10u + MOST_WRONG_BITS)
+
+/* What a field's word by itself says, or the number of its fault. */
+struct operand {
+    uint32_t number, form, fraction, width;
+    int has_sign;
+    enum check without;
+    uint64_t came; /* as a table's, from CYCLES_END on */
+};
+
+static int number_keeps(struct operand *operand, enum check part) {
+    operand->came |= (uint64_t)1 << (part - CYCLES_END);
+    return operand->without != part;
+}
+
+/* Whether the fault is there and this check of it is not left out. */
+static int word_fault(struct operand *operand, int there, enum check by, uint32_t number) {
+    if (operand->number != 0 || !there || !number_keeps(operand, by)) return 0;
+    operand->number = number;
+    return 1;
+}
+
+static uint32_t at_most(uint32_t number, uint32_t most) { return number < most ? number : most; }
+
+/* "a wrong kind or spare bit gives 2, then a width outside 1-32 or a form fault as above 4, .. the lowest bit not judged" */
+static struct operand operand_of(uint32_t field, enum check without) {
+    struct operand operand = {.form = field >> 24 & 15, .fraction = field >> 16 & 0xff, .width = field & 0xff, .without = without};
+    word_fault(&operand, field >> 28 != 3, WORD_KIND, 2);
+    word_fault(&operand, operand.form != 2 && operand.fraction != 0, WORD_SPARE, 2);
+    word_fault(&operand, operand.width < 1, WORD_WIDTH_LEAST, 4);
+    word_fault(&operand, operand.width > 32, WORD_WIDTH_MOST, 4);
+    word_fault(&operand, operand.form > 2, WORD_FORM, 4);
+    word_fault(&operand, operand.fraction > 16, WORD_FRACTION, 4);
+    word_fault(&operand, operand.fraction > operand.width, WORD_FRACTION_OVER, 4);
+    operand.width = at_most(operand.width, MOST_WRONG_BITS);
+    operand.fraction = at_most(operand.fraction, MOST_WRONG_BITS);
+    /* "1 two's complement, 2 fixed point"; "Form 2 is two's complement too". */
+    if (operand.number == 0 && operand.form == 1) operand.has_sign = number_keeps(&operand, SIGNED_SIGN);
+    if (operand.number == 0 && operand.form == 2) operand.has_sign = number_keeps(&operand, POINT_SIGN);
+    return operand;
+}
+
+/* "then a value out of range 12"; without a refusal the number of the value. */
+static int64_t whole_of(struct operand *operand, uint32_t value) {
+    int64_t end = (int64_t)1 << operand->width, whole = value;
+    word_fault(operand, whole >= end, VALUE_HIGH, 12);
+    return operand->has_sign && 2 * whole >= end ? whole - end : whole;
+}
+
+/* "a signed whole number (for form 2 the count of its smallest steps)" */
+static uint64_t reference_signed(struct operand *operand, uint32_t value) {
+    int64_t whole = whole_of(operand, value);
+    if (operand->number != 0) return refused_list(operand->number, 0);
+    return (uint64_t)(whole < 0) << 40 | ((uint64_t)whole & 0xffffffff);
+}
+
+/* "and back": the value of a number in range, else 12. */
+static uint64_t reference_stored(struct operand *operand, int64_t number) {
+    int64_t end = (int64_t)1 << operand->width, least = operand->has_sign ? -(end / 2) : 0;
+    word_fault(operand, number < least, NUMBER_LEAST, 12);
+    word_fault(operand, number >= least + end, NUMBER_MOST, 12);
+    return operand->number != 0 ? refused_list(operand->number, 0) : ((uint64_t)number & (uint64_t)(end - 1) & 0xffffffff);
+}
+
+/* The digits of steps / 2^fraction, of which the last `fraction` are after the point: those of steps with as many zeros behind, halved
+ * one time after another. How many there are. */
+static uint32_t halved_digits(uint64_t steps, uint32_t fraction, uint8_t *digits) {
+    uint32_t count = 10 + fraction;
+    memset(digits, 0, count);
+    for (uint32_t at = 10; at-- > 0; steps /= 10) digits[at] = (uint8_t)(steps % 10);
+    for (uint32_t turn = 0; turn < fraction; turn++)
+        for (uint32_t at = 0, left = 0; at < count; at++) {
+            uint32_t both = 10 * left + digits[at];
+            digits[at] = (uint8_t)(both / 2);
+            left = both % 2;
+        }
+    return count;
+}
+
+/* "a minus sign only below zero, no needless leading zero, at least one digit before the point, and after it exactly as many digits as
+ * fraction bits, with no point where there are none". Its length. */
+static uint32_t put_text(struct operand *operand, int64_t whole, uint8_t *text) {
+    uint8_t digits[MOST_DIGITS];
+    uint32_t count = halved_digits((uint64_t)(whole < 0 ? -whole : whole), operand->fraction, digits), at = 0, length = 0;
+    if (whole < 0 && number_keeps(operand, MINUS)) text[length++] = '-';
+    while (at < 9 && digits[at] == 0 && (at > 0 || number_keeps(operand, NO_LEADING))) at++;
+    if (at == 9 && digits[9] == 0 && operand->fraction > 0 && !number_keeps(operand, ONE_DIGIT)) at = 10;
+    while (at < 10) text[length++] = (uint8_t)('0' + digits[at++]);
+    while (count > 10 && digits[count - 1] == 0 && !number_keeps(operand, ALL_DIGITS)) count--;
+    if (operand->fraction > 0 || !number_keeps(operand, NO_POINT)) text[length++] = '.';
+    while (at < count) text[length++] = (uint8_t)('0' + digits[at++]);
+    return length;
+}
+
+/* "write a stored value as exact decimal text to the start of a buffer, returning its length in bytes"; "18, the text buffer is too
+ * short, checked after 2, 4 and 12, buffer unchanged". One that leaves 18 out writes as much as there is room for. */
+static uint64_t reference_text(struct operand *operand, uint32_t value, uint8_t *out, size_t room) {
+    uint8_t text[MOST_DIGITS + 2];
+    int64_t whole = whole_of(operand, value);
+    if (operand->number != 0) return refused_list(operand->number, 0);
+    uint32_t length = put_text(operand, whole, text);
+    if (word_fault(operand, room < length, TEXT_ROOM, 18)) return refused_list(18, 0);
+    memcpy(out, text, room < length ? room : length);
+    return length;
 }
 
 /* ------------------------------------------------------------------------- the listing */

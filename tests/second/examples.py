@@ -1,5 +1,5 @@
 """Tables and questions written by hand, with the lines of docs/probe.md that document 01 asks for (masks, sizes and cycles: document
-02's No. 1 to No. 3).
+02's No. 1 to No. 3; operands with a sign or a point: its No. 7).
 
 Nothing here is computed by the second implementation: every number, place and mask was written out by reading the documents.
 """
@@ -174,7 +174,7 @@ READ_EXAMPLES = [
 
     # Number 2, spare bits: lowest and highest of each kind.
     ("field, bit 16 set", table("10010002 20050210 00000002 00000002 30010001"), "1 2 4 00000000"),
-    ("field, bit 27 set", table("10010002 20050210 00000002 00000002 38000001"), "1 2 4 00000000"),
+    ("field, bit 23 set", table("10010002 20050210 00000002 00000002 30800001"), "1 2 4 00000000"),
     ("condition, bit 4 set", EVERY_KIND[:5] + table("40000011 00000001 00000001 50000000 00000002 00000000"), "1 2 5 00000000"),
     ("condition, bit 27 set", EVERY_KIND[:5] + table("48000001 00000001 00000001 50000000 00000002 00000000"), "1 2 5 00000000"),
     ("unmatching pattern, bit 0 set", EVERY_KIND[:8] + table("50000001 00000002 00000000"), "1 2 8 00000000"),
@@ -299,6 +299,46 @@ READ_EXAMPLES = [
     ("cycles, then not covered", table("60010002 20050200 00000002 00000002 0000004d"), "1 4 1 00000000"),
     ("cycles, then a field of width 0", table("60010002 20050210 00000002 00000002 0000004d 30000000"), "1 4 5 00000000"),
     ("cycles, then a condition of kind 5", table("60010002 20050211 00000002 00000002 0000004d 30000001 50000000"), "1 2 6 00000000"),
+
+    # Forms, good: width and number of entries.
+    ("a signed field", table("10010002 20050210 00000002 00000002 31000001"), "1 0 0 00000000 2 1"),
+    ("a field with a point, no fraction bits", table("10010002 20050210 00000002 00000002 32000001"), "1 0 0 00000000 2 1"),
+    ("1 fraction bit of 1", table("10010002 20050210 00000002 00000002 32010001"), "1 0 0 00000000 2 1"),
+    ("16 fraction bits of 16", table("10010020 20002010 ffff0000 00000000 32100010"), "1 0 0 00000000 32 1"),
+    ("16 fraction bits of 32", table("10010020 20002010 00000000 00000000 32100020"), "1 0 0 00000000 32 1"),
+    ("every form in one entry", table("10010004 20000430 00000008 00000000 31000001 32010101 30000201"), "1 0 0 00000000 4 1"),
+    ("with cycles, a signed field", table("60010002 20050210 00000002 00000002 0000004d 31000001"), "1 0 0 00000000 2 1"),
+
+    # Forms, number 2: "bits 23-16 stay spare for all other forms" than 2.
+    ("a signed field, bit 16 set", table("10010002 20050210 00000002 00000002 31010001"), "1 2 4 00000000"),
+    ("a signed field, bit 23 set", table("10010002 20050210 00000002 00000002 31800001"), "1 2 4 00000000"),
+    ("form 3, bit 16 set", table("10010002 20050210 00000002 00000002 33010001"), "1 2 4 00000000"),
+    ("form 15, bits 23 to 16 set", table("10010002 20050210 00000002 00000002 3fff0001"), "1 2 4 00000000"),
+    ("form 6, bit 23 set", table("10010002 20050210 00000002 00000002 36800001"), "1 2 4 00000000"),
+    ("a signed field with a spare bit and of width 0", table("10010002 20050210 00000002 00000002 31010000"), "1 2 4 00000000"),
+    ("a field with a spare bit over the mask", table("10010002 20050210 00000002 00000002 30100101"), "1 2 4 00000000"),
+    ("a field of form 2 and kind 4", table("10010002 20050210 00000002 00000002 42010001"), "1 2 4 00000000"),
+
+    # Forms, number 4: the index of the field.
+    ("form 3", table("10010002 20050210 00000002 00000002 33000001"), "1 4 4 00000000"),
+    ("form 4", table("10010002 20050210 00000002 00000002 34000001"), "1 4 4 00000000"),
+    ("form 8", table("10010002 20050210 00000002 00000002 38000001"), "1 4 4 00000000"),
+    ("form 15", table("10010002 20050210 00000002 00000002 3f000001"), "1 4 4 00000000"),
+    ("2 fraction bits of 1", table("10010002 20050210 00000002 00000002 32020001"), "1 4 4 00000000"),
+    ("16 fraction bits of 15", table("10010020 20002010 ffff8000 00000000 3210000f"), "1 4 4 00000000"),
+    ("17 fraction bits of 17", table("10010020 20002010 fffe0000 00000000 32110011"), "1 4 4 00000000"),
+    ("17 fraction bits of 32", table("10010020 20002010 00000000 00000000 32110020"), "1 4 4 00000000"),
+    ("255 fraction bits of 32", table("10010020 20002010 00000000 00000000 32ff0020"), "1 4 4 00000000"),
+    ("a field with a point, of width 0", table("10010002 20050210 00000002 00000002 32000000"), "1 4 4 00000000"),
+    ("a field with a point over the mask", table("10010002 20050210 00000002 00000002 32010101"), "1 4 4 00000000"),
+    ("form 3 in the second field", table("10010003 20050320 00000004 00000000 32010001 33000101"), "1 4 5 00000000"),
+    ("with cycles, form 3", table("60010002 20050210 00000002 00000002 0000004d 33000001"), "1 4 5 00000000"),
+
+    # Forms, two faults.
+    ("form 3, and so not covered", table("10010003 20050310 00000000 00000000 33000001"), "1 4 4 00000000"),
+    ("form 3, then a spare bit", table("10010003 20050320 00000004 00000000 33000001 30010101"), "1 4 4 00000000"),
+    ("form 3 as the last word, one more to come", table("10010002 20050220 00000002 00000002 33000001"), "1 4 4 00000000"),
+    ("65,536 cycles and form 3", table("60010002 20050210 00000002 00000002 00010000 33000001"), "1 2 4 00000000"),
 ]
 
 
@@ -884,4 +924,135 @@ CYCLES_EXAMPLES = [
     ("six halfwords with cycles, 5 words", listing(SHORT_OR_LONG_CYCLES, SHORT_OR_LONG_TREE, SIX_HALVES, 5),
      "9 0 0 00000000 5 | c0000000 c0100001 d0000003 c0000004 e0000005"),
     ("a step at 1, with cycles", step(SHORT_OR_LONG_CYCLES, SHORT_OR_LONG_TREE, SIX_HALVES, 1), "8 0 0 00000000 c0100001 3 c0000000"),
+]
+
+
+# ---------------------------------------------------------------------------- operands with a sign or a point
+
+ROOM = bytes(range(0xA0, 0xA0 + 28))        # what a text's buffer holds before; its first bytes are lent
+
+
+def signed(field, value):
+    return ("signed", field, value)
+
+
+def stored(field, number):
+    return ("stored", field, number)
+
+
+def text(field, value, length):
+    return ("text", field, value, ROOM[:length])
+
+
+def room_text(length, written=""):
+    """A buffer of so many bytes with a text at its start."""
+    return " ".join(["|", *(f"{byte:02x}" for byte in (written.encode() + ROOM[len(written):])[:length])])
+
+
+def two_ways(field, value, number):
+    """(what it shows, question, line): from the value to the number, and back."""
+    what = f"field {field:08x}, value {value:x}"
+    return [(what, signed(field, value), f"14 0 0 00000000 {number}"),
+            (what + ", back", stored(field, number), f"15 0 0 00000000 {value:08x}")]
+
+
+def texts(field, value, written):
+    """The same of the text: in a buffer of its length, and of two bytes more; not in one that is a byte shorter."""
+    what, size = f"field {field:08x}, text of {value:x}", len(written)
+    return [(what, text(field, value, size), f"16 0 0 00000000 {size} {room_text(size, written)}"),
+            (what + ", room left", text(field, value, size + 2), f"16 0 0 00000000 {size} {room_text(size + 2, written)}"),
+            (what + ", too short", text(field, value, size - 1), f"16 18 0 00000000 {room_text(size - 1)}")]
+
+
+def refused(what, number, field, value):
+    """By all three calls; the text has no room, which is judged last."""
+    return [(f"{what}, signed", signed(field, value), f"14 {number} 0 00000000"),
+            (f"{what}, stored", stored(field, value), f"15 {number} 0 00000000"),
+            (f"{what}, text", text(field, value, 0), f"16 {number} 0 00000000 |")]
+
+
+# Width 9, entry 1--------; its field has eight bits, four of them after the point.
+EIGHT_FOUR = 0x32040008
+POINT = table("10010009 20050910 00000100 00000100 32040008")
+
+# Twice 1-, with a signed field and with a plain one: forms decide nothing.
+TWINS_FORMS = table("10020002 20050210 00000002 00000002 31000001 20050210 00000002 00000002 30000001")
+
+# (what it shows, the question, the line)
+NUMBERS_EXAMPLES = [
+    # "Eight bits with four fraction bits: 0xF8 is -0.5000."
+    ("0xf8 is -0.5000", text(EIGHT_FOUR, 0xF8, 8), "16 0 0 00000000 7 | 2d 30 2e 35 30 30 30 a7"),
+    ("0xf8 is -8 of its smallest steps", signed(EIGHT_FOUR, 0xF8), "14 0 0 00000000 -8"),
+    ("-8 is 0xf8", stored(EIGHT_FOUR, -8), "15 0 0 00000000 000000f8"),
+
+    # Numbers, both ways. Field words: form, fraction bits, lowest bit 0, width.
+    *(case for field, value, number in [
+        (0x30000001, 0, 0), (0x30000001, 1, 1), (0x31000001, 0, 0), (0x31000001, 1, -1), (0x32000001, 1, -1), (0x32010001, 1, -1),
+        (0x30000008, 0xF8, 248), (0x31000008, 0xF8, -8), (0x32000008, 0xF8, -8), (0x32080008, 0xF8, -8),
+        (0x31000008, 0x7F, 127), (0x31000008, 0x80, -128), (0x31000008, 0xFF, -1), (0x31000008, 0, 0),
+        (0x31000010, 0x8000, -32768), (0x32100010, 0x7FFF, 32767), (0x3100001F, 0x40000000, -1073741824),
+        (0x30000020, 0xFFFFFFFF, 4294967295), (0x30000020, 0x80000000, 2147483648), (0x31000020, 0xFFFFFFFF, -1),
+        (0x31000020, 0x80000000, -2147483648), (0x31000020, 0x7FFFFFFF, 2147483647), (0x32100020, 0x80000001, -2147483647),
+        # the lowest bit is not judged
+        (0x3000FF08, 0xF8, 248), (0x3100FF20, 0x80000000, -2147483648), (0x32042008, 0xF8, -8)] for case in two_ways(field, value, number)),
+
+    # Texts.
+    *(case for field, value, written in [
+        (0x30000001, 0, "0"), (0x30000001, 1, "1"), (0x31000001, 1, "-1"), (0x31000001, 0, "0"), (0x32000001, 1, "-1"),
+        (0x32010001, 1, "-0.5"), (0x32010001, 0, "0.0"),
+        (0x32010004, 0, "0.0"), (0x32010004, 7, "3.5"), (0x32010004, 8, "-4.0"), (0x32010004, 0xF, "-0.5"), (0x32010004, 0xD, "-1.5"),
+        (0x30000008, 0xF8, "248"), (0x31000008, 0xF8, "-8"), (0x32000008, 0xF8, "-8"), (0x30000008, 100, "100"), (0x32000008, 10, "10"),
+        (EIGHT_FOUR, 0xF8, "-0.5000"), (EIGHT_FOUR, 0x08, "0.5000"), (EIGHT_FOUR, 0, "0.0000"), (EIGHT_FOUR, 0x10, "1.0000"),
+        (EIGHT_FOUR, 0xF0, "-1.0000"), (EIGHT_FOUR, 0x7F, "7.9375"), (EIGHT_FOUR, 0x80, "-8.0000"), (EIGHT_FOUR, 0x01, "0.0625"),
+        (EIGHT_FOUR, 0xEF, "-1.0625"), (0x3204FF08, 0xF8, "-0.5000"),
+        (0x32080008, 0x80, "-0.50000000"), (0x32080008, 0x01, "0.00390625"), (0x32080008, 0xFF, "-0.00390625"),
+        (0x32100010, 0x8000, "-0.5000000000000000"), (0x32100010, 0x7FFF, "0.4999847412109375"),
+        (0x30000020, 0xFFFFFFFF, "4294967295"), (0x31000020, 0x80000000, "-2147483648"), (0x31000020, 0x7FFFFFFF, "2147483647"),
+        (0x32010020, 0x80000001, "-1073741823.5"), (0x32100020, 0x00000001, "0.0000152587890625"),
+        (0x32100020, 0xFFFFFFFF, "-0.0000152587890625"), (0x32100020, 0x7FFFFFFF, "32767.9999847412109375"),
+        (0x32100020, 0x80000000, "-32768.0000000000000000")] for case in texts(field, value, written)),
+
+    # "a wrong kind or spare bit gives 2"; what comes after is wrong too, where it can be.
+    *(case for field in (0x20000008, 0x40000008, 0x00000008, 0xB0000008, 0x20000021) for case in refused(f"kind, {field:08x}", 2, field, 0x100)),
+    *(case for field in (0x30010008, 0x30800008, 0x31010008, 0x31800008, 0x33010008, 0x3FFF0008, 0x30040000, 0x310800FF)
+      for case in refused(f"spare bit, {field:08x}", 2, field, 0x100)),
+
+    # "then a width outside 1-32 or a form fault as above 4"
+    *(case for field in (0x30000000, 0x31000000, 0x32000000, 0x30000021, 0x31000021, 0x32100021, 0x300000FF, 0x3210FFFF)
+      for case in refused(f"width, {field:08x}", 4, field, 0)),
+    *(case for field in (0x33000008, 0x34000008, 0x38000008, 0x3F000008, 0x32090008, 0x32020001, 0x32110011, 0x32110020, 0x32FF0020)
+      for case in refused(f"form, {field:08x}", 4, field, 0)),
+    ("form 3, a value out of range", signed(0x33000008, 0x100), "14 4 0 00000000"),
+    ("form 3, a number out of range", stored(0x33000008, -129), "15 4 0 00000000"),
+    ("form 3, the text of a value out of range", text(0x33000008, 0x100, 0), "16 4 0 00000000 |"),
+
+    # "then a value out of range 12"
+    *((f"field {field:08x}, value {value:x} out of range", signed(field, value), "14 12 0 00000000")
+      for field, value in [(0x30000001, 2), (0x31000001, 2), (0x30000008, 0x100), (0x31000008, 0x100), (EIGHT_FOUR, 0x1F8),
+                           (0x31000008, 0xFFFFFFF8), (0x3000001F, 0x80000000), (0x3100001F, 0xFFFFFFFF)]),
+    *((f"field {field:08x}, number {number} out of range", stored(field, number), "15 12 0 00000000")
+      for field, number in [(0x30000001, 2), (0x30000001, -1), (0x31000001, 1), (0x31000001, -2), (0x30000008, 256), (0x30000008, -1),
+                            (0x31000008, 128), (0x31000008, -129), (EIGHT_FOUR, 128), (EIGHT_FOUR, -129), (0x30000020, 4294967296),
+                            (0x30000020, -1), (0x31000020, 2147483648), (0x31000020, -2147483649), (0x31000020, 4294967295),
+                            (0x31000020, -4294967296), (0x31000008, 4294967296), (0x31000008, -4294967297), (0x30000020, 2 ** 63 - 1),
+                            (0x31000020, -2 ** 63), (0x30000020, -2 ** 63)]),
+    *((f"field {field:08x}, text of {value:x} out of range, {length} bytes", text(field, value, length), "16 12 0 00000000 " + room_text(length))
+      for field, value in [(0x30000008, 0x100), (0x31000001, 2), (EIGHT_FOUR, 0xFFFFFFF8)] for length in (0, 3, 20)),
+
+    # "Encoding and decoding keep to stored values"; nothing else depends on forms.
+    ("with a point, word 1f8", lookup(POINT, 0x1F8), "2 0 0 00000000 0"),
+    ("with a point, word 1f8 decoded", decode(POINT, 0x1F8, EIGHTS),
+     "5 0 0 00000000 0 | 000000f8 88888888 88888888 88888888 88888888 88888888 88888888 88888888"),
+    ("with a point, f8 encoded", encode(POINT, 0, [0xF8]), "6 0 0 00000000 000001f8"),
+    ("with a point, 100 does not fit", encode(POINT, 0, [0x100]), "6 12 0 00000000"),
+    ("with a point, -8 is no stored value", encode(POINT, 0, [0xFFFFFFF8]), "6 12 0 00000000"),
+    ("with a point, 5 words", generate(POINT, 5), "3 0 0 00000000 4 | 70090003 84000003 a0000000 90000000 55555555"),
+    ("size, with a point", size(POINT), "12 0 0 00000000 3 1"),
+    ("with a point, its tree", check(POINT, "70090003 84000003 a0000000 90000000"), ACCEPTED),
+    ("with a point, cycles", cycles(POINT, 0), "13 0 0 00000000 0"),
+    ("twins with forms are ambiguous", lookup(TWINS_FORMS, 3), "2 6 0 00000003"),
+    ("size of twins with forms", size(TWINS_FORMS), "12 6 0 00000002"),
+    ("form 3, word 1f8", lookup(table("10010009 20050910 00000100 00000100 33000008"), 0x1F8), "2 4 4 00000000"),
+    ("9 fraction bits of 8, decoded", decode(table("10010009 20050910 00000100 00000100 32090008"), 0x1F8, EIGHTS), "5 4 4 00000000 " + KEPT),
+    ("a spare bit, encoded", encode(table("10010009 20050910 00000100 00000100 31040008"), 0, [0xF8]), "6 2 4 00000000"),
 ]

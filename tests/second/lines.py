@@ -1,6 +1,6 @@
 """The line of docs/probe.md that the second implementation gives for a question."""
 
-from second import cost, measure, selection, walk
+from second import cost, measure, numbers, selection, walk
 from second.checker import check
 from second.image import END, list_items, step
 from second.reader import Refusal, read
@@ -107,15 +107,38 @@ def cycles_line(words, entry):
     return cost_line(cost.cycles(words, entry))
 
 
+def signed_line(field, value):
+    outcome = numbers.signed(field, value)
+    return "14 " + refusal_text(outcome) + result_text(outcome, str(outcome))
+
+
+def stored_line(field, number):
+    outcome = numbers.stored(field, number)
+    if isinstance(outcome, Refusal):
+        return "15 " + refusal_text(outcome)
+    return f"15 {refusal_text(outcome)} {outcome:08x}"
+
+
+def bytes_text(after):
+    """The same of a buffer of bytes."""
+    return " ".join(["|", *(f"{item:02x}" for item in after)])
+
+
+def text_line(field, value, buffer):
+    outcome, after = numbers.text(field, value, buffer)
+    return "16 " + refusal_text(outcome) + result_text(outcome, str(outcome)) + " " + bytes_text(after)
+
+
 def line_of(question):
     """A question is ("read", table), ("lookup", table, word), ("generate", table, buffer), ("walk bytes", bytes, word),
     ("decode", table, word, buffer), ("encode", table, entry, values), ("check", table, tree), ("step", table, tree, image,
-    address), ("list", table, tree, image, buffer), ("walk", tree, word), ("mask", bytes, word), ("measure", table) or
-    ("cycles", table, entry)."""
+    address), ("list", table, tree, image, buffer), ("walk", tree, word), ("mask", bytes, word), ("measure", table),
+    ("cycles", table, entry), ("signed", field, value), ("stored", field, number) or ("text", field, value, buffer)."""
     name, *parts = question
     makers = {"read": read_line, "lookup": lookup_line, "generate": generate_line, "walk bytes": walk_bytes_line,
               "decode": decode_line, "encode": encode_line, "check": check_line, "step": step_line, "list": list_line,
-              "walk": walk_line, "mask": mask_line, "measure": measure_line, "cycles": cycles_line}
+              "walk": walk_line, "mask": mask_line, "measure": measure_line, "cycles": cycles_line,
+              "signed": signed_line, "stored": stored_line, "text": text_line}
     return makers[name](*parts)
 
 

@@ -1,4 +1,4 @@
-"""A second reader of pattern tables, written from document 01 alone, and cycles from document 02's No. 3.
+"""A second reader of pattern tables, written from document 01 alone; cycles from document 02's No. 3, forms of fields from its No. 7.
 
 It reads a table the way one does by hand: word after word, each word judged as soon as it is read,
 bit positions kept as sets of numbers. Quotations in the comments are sentences of document 01 where nothing else is said.
@@ -26,6 +26,8 @@ class Pattern:
 class Field:
     lowest: int
     width: int
+    form: int
+    fraction: int
 
 
 @dataclass(frozen=True)
@@ -185,10 +187,38 @@ def read_entry(reading, width, with_cycles):
     return Entry(label, length, opcode, cycles, fields, conditions)
 
 
+PLAIN, TWOS_COMPLEMENT, FIXED_POINT = 0, 1, 2      # "bits 27-24 for the form: 0 plain, 1 two's complement, 2 fixed point"
+MOST_FRACTION = 16                                 # "for form 2 bits 23-16 for the fraction bits, 0 to 16"
+
+
+def form_of(word):
+    """The form in a field's word, and bits 23-16."""
+    return bits(word, 27, 24), bits(word, 23, 16)
+
+
+def spare_bit_set(word):
+    # No. 7: "bits 23-16 stay spare for all other forms" than 2; a form over 2 is one of them.
+    form, fraction = form_of(word)
+    return form != FIXED_POINT and fraction != 0
+
+
+def form_at_fault(word):
+    # No. 7: "A form over 2, or fraction bits over 16 or over the field's width, gives 4."
+    form, fraction = form_of(word)
+    if form not in (PLAIN, TWOS_COMPLEMENT, FIXED_POINT):
+        return True
+    return fraction > MOST_FRACTION or fraction > bits(word, 7, 0)
+
+
 def read_field(reading, own, covered):
     """One field; its bits are added to the covered ones."""
     # "Kind 3, field: bits 15-8 its lowest bit, bits 7-0 its width in bits."
-    head, place = read_head(reading, 3, 27, 16)
+    head, place = read_head(reading, 3)
+    # "of two at one word the lower": a spare bit is 2, and what follows is 4.
+    if spare_bit_set(head):
+        raise Fault(2, place)
+    if form_at_fault(head):
+        raise Fault(4, place)
     lowest = bits(head, 15, 8)
     width = bits(head, 7, 0)
     its_bits = set(range(lowest, lowest + width))
@@ -200,7 +230,7 @@ def read_field(reading, own, covered):
     if its_bits & covered:
         raise Fault(4, place)
     covered |= its_bits
-    return Field(lowest, width)
+    return Field(lowest, width, *form_of(head))
 
 
 def read_condition(reading, own):

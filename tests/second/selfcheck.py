@@ -4,15 +4,20 @@ Prints one summary line; at the first failure it prints what failed and exits wi
 """
 
 import random
+import re
 import sys
 from collections import Counter
 from dataclasses import replace
 from pathlib import Path
 
-sys.path.insert(0, str(Path(__file__).resolve().parent.parent))
+HERE = Path(__file__).resolve().parent
+# Python puts this file's folder there, whose numbers.py would be taken for its own.
+sys.path[:] = [str(HERE.parent), *(place for place in sys.path if Path(place).resolve() != HERE)]
 
-from second import checker, checktrees, cost, examples, image, images, measure, reader, selection, tables, tree, trees, twins, walk, \
-    wrong_cycles, wrong_masks, wrong_sizes
+from fractions import Fraction
+
+from second import checker, checktrees, cost, examples, image, images, measure, numbers, reader, selection, tables, tree, trees, twins, \
+    walk, wrong_cycles, wrong_masks, wrong_numbers, wrong_sizes
 from second.lines import line_of, mktree_text
 from second.reader import Refusal, Table, read
 
@@ -42,7 +47,7 @@ MOST_MASKS_LINE = "3 0 0 00000000 6 | 70030005 80000005 81000004 90000001 900000
 # The hand-written examples: (name, question, line)
 ASKED = [(name, ("read", words), line) for name, words, line in examples.READ_EXAMPLES] + examples.SELECTION_EXAMPLES \
     + examples.TREE_EXAMPLES + examples.CHECK_EXAMPLES + examples.IMAGE_EXAMPLES + examples.STEP_MASK_EXAMPLES \
-    + examples.SIZE_EXAMPLES + examples.CYCLES_EXAMPLES \
+    + examples.SIZE_EXAMPLES + examples.CYCLES_EXAMPLES + examples.NUMBERS_EXAMPLES \
     + [("the bit of the most masks", ("generate", MOST_MASKS, [0] * 6), MOST_MASKS_LINE)]
 
 
@@ -243,13 +248,15 @@ def cycles_of_no_word(reading):
     return 0
 
 
-HOMES = {reader: ("read_cycles",), selection: ("satisfied", "more_specific", "select"),
+HOMES = {reader: ("read_cycles", "form_at_fault", "spare_bit_set", "read_field"),
+         selection: ("satisfied", "more_specific", "select", "field_value", "encode"),
          tree: ("entry_status", "condition_status", "chosen_bit", "conflict_word"),
          walk: ("damaged", "header_good", "packed", "walk", "mask_bytes"),
          checker: ("widths_equal", "none_damaged", "one_sides_begin_right", "all_used", "no_bit_twice", "named_right",
                    "nothing_right", "first_step"),
          image: ("word_at", "halfwords", "item_at", "no_image_table", "no_image", "refusal_before_items", "mask_at"),
-         measure: ("measure",), cost: ("cycles",)}
+         measure: ("measure",), cost: ("cycles",),
+         numbers: ("judged", "has_sign", "number_of", "fits", "value_of", "text_of", "signed", "stored", "text")}
 RIGHT = {name: getattr(home, name) for home, names in HOMES.items() for name in names}
 MISTAKES = [("satisfied", one_missed_is_enough, "0x00 A"),
             ("satisfied", unmatching_forgotten, "0x00 A"),
@@ -320,7 +327,74 @@ MISTAKES = [("satisfied", one_missed_is_enough, "0x00 A"),
             ("cycles", wrong_cycles.place_of_missing, "cycles not there, nor the mask"),
             ("cycles", wrong_cycles.after_fields, "too many cycles and a field of width 0"),
             ("cycles", wrong_cycles.after_fields, "too many cycles and not covered"),
-            ("cycles", wrong_cycles.before_opcode, "cycles, opcode value outside the mask")]
+            ("cycles", wrong_cycles.before_opcode, "cycles, opcode value outside the mask"),
+            # in tables
+            ("form_at_fault", wrong_numbers.form_three_taken, "form 3"),
+            ("form_at_fault", wrong_numbers.form_two_refused, "a field with a point, no fraction bits"),
+            ("form_at_fault", wrong_numbers.wide_fraction_taken, "2 fraction bits of 1"),
+            ("form_at_fault", wrong_numbers.wide_fraction_taken, "16 fraction bits of 15"),
+            ("form_at_fault", wrong_numbers.fraction_17_taken, "17 fraction bits of 17"),
+            ("form_at_fault", wrong_numbers.fraction_16_refused, "16 fraction bits of 16"),
+            ("form_at_fault", wrong_numbers.all_after_point_refused, "1 fraction bit of 1"),
+            ("spare_bit_set", wrong_numbers.spare_of_plain_alone, "a signed field, bit 16 set"),
+            ("read_field", wrong_numbers.spare_is_4_in_tables, "field, bit 16 set"),
+            ("read_field", wrong_numbers.spare_of_form_3_is_4_in_tables, "form 3, bit 16 set"),
+            ("read_field", wrong_numbers.form_is_2_in_tables, "form 3"),
+            ("field_value", wrong_numbers.sign_extended, "with a point, word 1f8 decoded"),
+            ("encode", wrong_numbers.numbers_encoded, "with a point, -8 is no stored value"),
+            ("more_specific", wrong_numbers.forms_win, "twins with forms are ambiguous"),
+            # by themselves
+            ("form_at_fault", wrong_numbers.form_three_taken, "form, 33000008, signed"),
+            ("form_at_fault", wrong_numbers.wide_fraction_taken, "form, 32090008, text"),
+            ("form_at_fault", wrong_numbers.fraction_17_taken, "form, 32110020, stored"),
+            ("spare_bit_set", wrong_numbers.spare_of_plain_alone, "spare bit, 31010008, signed"),
+            ("judged", wrong_numbers.spare_is_4, "spare bit, 30010008, signed"),
+            ("judged", wrong_numbers.spare_of_form_3_is_4, "spare bit, 33010008, stored"),
+            ("judged", wrong_numbers.form_is_2, "form, 33000008, signed"),
+            ("judged", wrong_numbers.width_is_2, "width, 30000000, text"),
+            ("judged", wrong_numbers.width_first, "spare bit, 30040000, signed"),
+            ("judged", wrong_numbers.width_33_taken, "width, 30000021, signed"),
+            ("judged", wrong_numbers.width_32_refused, "field 30000020, value ffffffff"),
+            ("judged", wrong_numbers.kind_not_looked_at, "kind, 20000008, stored"),
+            ("judged", wrong_numbers.lowest_bit_judged, "field 3000ff08, value f8"),
+            ("judged", wrong_numbers.place_one, "width, 30000000, signed"),
+            ("has_sign", wrong_numbers.form_1_alone, "0xf8 is -8 of its smallest steps"),
+            ("number_of", wrong_numbers.sign_missed, "field 31000001, value 1"),
+            ("number_of", wrong_numbers.plain_wraps, "field 30000020, value ffffffff"),
+            ("number_of", wrong_numbers.ones_complement, "field 31000008, value ff"),
+            ("number_of", wrong_numbers.sign_and_size, "field 31000008, value f8"),
+            ("fits", wrong_numbers.high_bits_left_out, "field 31000008, value fffffff8 out of range"),
+            ("fits", wrong_numbers.one_value_more, "field 30000008, value 100 out of range"),
+            ("value_of", wrong_numbers.least_refused, "field 31000008, value 80, back"),
+            ("value_of", wrong_numbers.one_past_taken, "field 31000008, number 128 out of range"),
+            ("value_of", wrong_numbers.one_below_taken, "field 31000008, number -129 out of range"),
+            ("value_of", wrong_numbers.negative_of_plain_taken, "field 30000008, number -1 out of range"),
+            ("value_of", wrong_numbers.bits_of_signed_taken, "field 31000020, number 4294967295 out of range"),
+            ("value_of", wrong_numbers.low_word_alone, "field 31000008, number 4294967296 out of range"),
+            ("text_of", wrong_numbers.point_alone, "field 32000008, text of f8"),
+            ("text_of", wrong_numbers.minus_zero, "field 31000001, text of 0"),
+            ("text_of", wrong_numbers.minus_lost, "0xf8 is -0.5000"),
+            ("text_of", wrong_numbers.plus_sign, "field 30000008, text of f8"),
+            ("text_of", wrong_numbers.no_digit_before_point, "0xf8 is -0.5000"),
+            ("text_of", wrong_numbers.needless_zero, "field 32040008, text of 0"),
+            ("text_of", wrong_numbers.zeros_cut, "0xf8 is -0.5000"),
+            ("text_of", wrong_numbers.rounded, "field 32100020, text of 1"),
+            ("text_of", wrong_numbers.lower_whole, "0xf8 is -0.5000"),
+            ("text_of", wrong_numbers.steps_for_digits, "0xf8 is -0.5000"),
+            ("text_of", wrong_numbers.one_digit_fewer, "0xf8 is -0.5000"),
+            ("signed", wrong_numbers.signed_range_first, "form 3, a value out of range"),
+            ("stored", wrong_numbers.stored_range_first, "form 3, a number out of range"),
+            ("text", wrong_numbers.text_range_first, "form 3, the text of a value out of range"),
+            ("text", wrong_numbers.room_before_range, "field 30000008, text of 100 out of range, 0 bytes"),
+            ("text", wrong_numbers.room_before_form, "form, 33000008, text"),
+            ("text", wrong_numbers.room_before_kind, "kind, 20000008, text"),
+            ("text", wrong_numbers.exact_room_refused, "field 32040008, text of f8"),
+            ("text", wrong_numbers.cut_to_buffer, "field 32040008, text of f8, too short"),
+            ("text", wrong_numbers.written_and_refused, "field 32040008, text of f8, too short"),
+            ("text", wrong_numbers.cleared, "field 30000008, text of 100 out of range, 3 bytes"),
+            ("text", wrong_numbers.byte_after_zeroed, "0xf8 is -0.5000"),
+            ("text", wrong_numbers.at_the_end, "0xf8 is -0.5000"),
+            ("text", wrong_numbers.length_of_buffer, "0xf8 is -0.5000")]
 
 
 def forget():
@@ -357,7 +431,8 @@ def as_plan(table):
         fields = [(one.lowest, one.width) for one in entry.fields]
         conditions = [(as_pattern(one.matching), [as_pattern(other) for other in one.unmatching])
                       for one in entry.conditions]
-        entries.append(tables.EntryPlan(entry.label, entry.length, mask, value, fields, conditions, entry.cycles))
+        forms = [(one.form, one.fraction) for one in entry.fields]
+        entries.append(tables.EntryPlan(entry.label, entry.length, mask, value, fields, conditions, entry.cycles, forms))
     return tables.TablePlan(table.width, entries)
 
 
@@ -370,6 +445,10 @@ def check_good(laid, tally):
         fail(f"a good table was read as something else: {hexadecimal(laid.words)}")
     tally[f"good, kind {twins.kind_of(laid.words)}"] += 1
     tally["most cycles"] += any(entry.cycles == tables.MOST_CYCLES for entry in table.entries)
+    for entry in table.entries:
+        for one in entry.fields:
+            tally[f"form {one.form}"] += 1
+            tally[f"fraction {one.fraction}, {'as wide' if one.fraction == one.width else 'wider'}"] += one.form == tables.FIXED
 
 
 def check_twin(plain, laid):
@@ -395,6 +474,12 @@ def check_good_tables(rng, tally):
         check_good(laid, tally)
     if tally["most cycles"] < 400:
         fail(f"only {tally['most cycles']} tables with the most cycles")
+    for what in (*(f"form {form}" for form in tables.FORMS), "fraction 0, wider", "fraction 16, wider", "fraction 16, as wide",
+                 *(f"fraction {fraction}, {size}" for fraction in range(1, 16) for size in ("wider", "as wide"))):
+        if tally[what] < 10:
+            fail(f"only {tally[what]} fields of {what}")
+    if not 0.8 < tally["form 0"] / (tally["form 1"] + tally["form 2"]) < 1.4:
+        fail(f"{tally['form 0']} plain fields, but {tally['form 1'] + tally['form 2']} others")
 
 
 def good_plans(rng):
@@ -677,6 +762,48 @@ def check_trees(rng, tally):
             fail(f"only {tally[what]} of {what}")
 
 
+# ---------------------------------------------------------------------------- operands with a sign or a point
+
+def check_text(kind, number, tally):
+    """The text once more, by its shape, and by what it says when it is read."""
+    text = numbers.text_of(number, kind.fraction)
+    after = rf"\.[0-9]{{{kind.fraction}}}" if kind.fraction else ""
+    if not re.fullmatch(rf"-?(0|[1-9][0-9]*){after}", text) or Fraction(text) != Fraction(number, 2 ** kind.fraction) \
+            or text.startswith("-") != (number < 0):
+        fail(f"{number} / 2^{kind.fraction} is written {text}")
+    tally["texts"] += 1
+
+
+def check_kind(kind, values, tally):
+    """Each value has a number, of which it is the value."""
+    for value in values:
+        number = numbers.number_of(kind, value)
+        if numbers.value_of(kind, number) != value:
+            fail(f"{kind}: value {value:x} has the number {number}, and that the value {numbers.value_of(kind, number)}")
+        check_text(kind, number, tally)
+
+
+def check_order(kind):
+    """All values of a narrow field: from the least number on, one after another. With a sign the upper half comes first."""
+    half = 2 ** (kind.width - 1)
+    order = [*range(half), *range(half, 2 * half)] if kind.form == 0 else [*range(half, 2 * half), *range(half)]
+    seen = [numbers.number_of(kind, value) for value in order]
+    if seen != list(range(0 if kind.form == 0 else -half, 2 * half if kind.form == 0 else half)):
+        fail(f"{kind}: the numbers are {seen}")
+
+
+def check_numbers(rng, tally):
+    for width in range(1, 33):
+        for form, fraction in tables.forms_of(width):
+            kind, some = numbers.Kind(form, fraction, width), [0, 1, 2 ** (width - 1), 2 ** width - 1]
+            if width <= 8:
+                check_order(kind)
+                some = range(2 ** width)
+            check_kind(kind, [*some, *(rng.getrandbits(width) for _ in range(9))], tally)
+    if tally["texts"] < 8000:
+        fail(f"only {tally['texts']} texts")
+
+
 # ---------------------------------------------------------------------------- the checker and the lister
 
 def text_cell(tests, width):
@@ -790,7 +917,7 @@ def check_limits(tally):
 
 def check_lister(rng, tally):
     while tally["listed images"] < 200:
-        plan = images.image_plan(rng)
+        plan = tables.with_forms(rng, images.image_plan(rng))
         words = tables.lay_out(plan).words
         nodes = tree.nodes_of(read(words), 150)
         if nodes is not None:
@@ -812,6 +939,7 @@ def main():
     check_cuts(rng, tally)
     check_double_damages(rng, tally)
     check_round_trips(rng, tally)
+    check_numbers(rng, tally)
     check_trees(rng, tally)
     check_checker(rng, tally)
     check_lister(rng, tally)
@@ -819,7 +947,7 @@ def main():
     print(f"selfcheck good: {example_count} examples, {mistakes} mistakes noticed, {tally['good, kind 1']} good tables of kind 1, "
           f"{tally['good, kind 6']} of kind 6, {tally['same of twins']} questions to twins, "
           f"damages by number 1: {tally[1]}, 2: {tally[2]}, 3: {tally[3]}, 4: {tally[4]}, "
-          f"{tally['double']} double damages, {tally['round trips']} round trips, {tally['trees']} trees "
+          f"{tally['double']} double damages, {tally['round trips']} round trips, {tally['texts']} texts, {tally['trees']} trees "
           f"({tally['ambiguous trees']} ambiguous), {tally['walked words']} walked words, {judged} trees judged twice "
           f"({tally['missing None']} accepted), {tally['items 12'] + tally['items 13'] + tally['items 14']} items walked")
 

@@ -12,6 +12,9 @@ MOST_WORDS = 16384
 MOST_CYCLES = 65535
 ALL_BITS = 0xFFFFFFFF
 PLAIN, WITH_CYCLES = 1, 6       # the kinds of a first word
+NO_FORM, SIGNED, FIXED = 0, 1, 2    # the forms of a field
+FORMS = (NO_FORM, SIGNED, FIXED)
+MOST_FRACTION = 16
 
 
 @dataclass
@@ -23,6 +26,7 @@ class EntryPlan:
     fields: list                                    # (lowest bit, width) in table order
     conditions: list = field(default_factory=list)  # (pattern, [pattern, ...]), a pattern is (mask, value)
     cycles: int = 0                                 # laid out in a table of kind 6 only
+    forms: list = field(default_factory=list)       # (form, fraction bits) of each field; empty: all are plain
 
 
 @dataclass
@@ -126,7 +130,7 @@ def good_plan(rng, width, most_entries=12, conditions_often=0.4):
     for _ in range(rng.randint(0, most_entries)):
         entries.append(fresh_entry(rng, width))
         add_conditions(rng, width, entries[-1], conditions_often)
-    return TablePlan(width, entries)
+    return with_forms(rng, TablePlan(width, entries))
 
 
 def small_entries_plan(rng, width, count):
@@ -140,7 +144,7 @@ def small_entries_plan(rng, width, count):
         mask = own & ~span(lowest, free)
         fields = [(lowest, free)] if free else []
         entries.append(EntryPlan(rng.randrange(4096), length, mask, rng.getrandbits(32) & mask, fields))
-    return TablePlan(width, entries)
+    return with_forms(rng, TablePlan(width, entries))
 
 
 def full_entry(rng, width):
@@ -153,7 +157,7 @@ def full_entry(rng, width):
     for _ in range(8):
         unmatching = [condition_pattern(rng, own, entry) for _ in range(8)]
         entry.conditions.append((condition_pattern(rng, own, entry), unmatching))
-    return entry
+    return entry_with_forms(rng, entry)
 
 
 def longest_plan(rng, kind=PLAIN):
@@ -166,7 +170,7 @@ def longest_plan(rng, kind=PLAIN):
         free = 1 if number < left % smallest else 0
         entries.append(EntryPlan(rng.randrange(4096), 32, ALL_BITS - free, rng.getrandbits(32) & ~free, [(0, 1)] * free))
     rng.shuffle(entries)
-    return TablePlan(32, entries)
+    return with_forms(rng, TablePlan(32, entries))
 
 
 def some_cycles(rng):
@@ -177,6 +181,28 @@ def some_cycles(rng):
 def with_cycles(rng, plan):
     """The same plan with cycles in its entries."""
     return TablePlan(plan.width, [replace(entry, cycles=some_cycles(rng)) for entry in plan.entries])
+
+
+def forms_of(width):
+    """Every form that a field of this width may have, with its fraction bits."""
+    return [(NO_FORM, 0), (SIGNED, 0), *((FIXED, fraction) for fraction in range(min(width, MOST_FRACTION) + 1))]
+
+
+def some_form(rng, width):
+    """One of them; about half are plain, and the fewest and the most fraction bits come often."""
+    if rng.random() < 0.5:
+        return NO_FORM, 0
+    allowed = forms_of(width)
+    return rng.choice([(SIGNED, 0), (FIXED, 0), allowed[-1], rng.choice(allowed)])
+
+
+def entry_with_forms(rng, entry):
+    return replace(entry, forms=[some_form(rng, width) for _, width in entry.fields])
+
+
+def with_forms(rng, plan):
+    """The same plan with forms in its fields."""
+    return TablePlan(plan.width, [entry_with_forms(rng, entry) for entry in plan.entries])
 
 
 # ---------------------------------------------------------------------------- overlap on purpose
@@ -237,7 +263,7 @@ def overlapping_plan(rng, width, most_entries=9, conditions_often=0.3):
         entries.append(related_entry(rng, width, entries) if related else fresh_entry(rng, width))
     for entry in entries:
         add_conditions(rng, width, entry, conditions_often)
-    return TablePlan(width, entries)
+    return with_forms(rng, TablePlan(width, entries))
 
 
 # ---------------------------------------------------------------------------- tables that are never ambiguous
@@ -268,7 +294,7 @@ def nested_plan(rng, width, most_entries=10, conditions_often=0.4):
     rng.shuffle(entries)
     for entry in entries:
         add_conditions(rng, width, entry, conditions_often)
-    return TablePlan(width, entries)
+    return with_forms(rng, TablePlan(width, entries))
 
 
 def add_join(rng, width, entries, e, f):
@@ -302,7 +328,7 @@ def joined_plan(rng, width, most_entries=40):
         if not any(refines(entry, other) for other in entries):
             add_conditions(rng, width, entry, 0.6)
     rng.shuffle(entries)
-    return TablePlan(width, entries)
+    return with_forms(rng, TablePlan(width, entries))
 
 
 def divided_plan(rng, width):
@@ -322,7 +348,7 @@ def divided_plan(rng, width):
         else:
             entry.conditions.append((one, [other]))
             twin.conditions += [((0, 0), [one]), (other, [])]
-        plan.entries.insert(rng.randint(0, len(plan.entries)), twin)
+        plan.entries.insert(rng.randint(0, len(plan.entries)), entry_with_forms(rng, twin))
     return plan
 
 
@@ -436,8 +462,8 @@ def entry_word(label, length, fields, conditions):
     return 2 << 28 | label << 16 | length << 8 | fields << 4 | conditions
 
 
-def field_word(lowest, width):
-    return 3 << 28 | lowest << 8 | width
+def field_word(lowest, width, form=NO_FORM, fraction=0):
+    return 3 << 28 | form << 24 | fraction << 16 | lowest << 8 | width
 
 
 def condition_word(unmatching):
@@ -466,9 +492,10 @@ def lay_entry(words, entry, kind):
         cycles = len(words)
         words.append(entry.cycles)
     fields = []
-    for lowest, width in entry.fields:
+    forms = entry.forms or [(NO_FORM, 0)] * len(entry.fields)
+    for (lowest, width), (form, fraction) in zip(entry.fields, forms, strict=True):
         fields.append(len(words))
-        words.append(field_word(lowest, width))
+        words.append(field_word(lowest, width, form, fraction))
     fields_end = len(words)
     conditions = [lay_condition(words, condition) for condition in entry.conditions]
     return EntryPlace(head, cycles, fields, fields_end, conditions, len(words))
@@ -648,13 +675,38 @@ def head_kind(rng, laid):
     return head_damage(number, index, other_kind(rng, laid.words[index]))
 
 
+def pick_field(rng, laid, fits=lambda word: True):
+    """A random field: its entry's number and its index, or None."""
+    fitting = [(number, index) for number, place in enumerate(laid.entries) for index in place.fields if fits(laid.words[index])]
+    return rng.choice(fitting) if fitting else None
+
+
+def with_form(word, form, fraction):
+    """A field's word with another form and other bits 23-16."""
+    return with_bits(with_bits(word, 27, 24, form), 23, 16, fraction)
+
+
+def spare_number(rng):
+    """A number for bits 23-16 that isn't 0; some of them would do as fraction bits."""
+    return rng.choice([1, 128, 255, spare_bit(rng, 0, 7), rng.randint(1, MOST_FRACTION)])
+
+
 def field_spare(rng, laid):
-    picked = pick_entry(rng, laid, lambda plan, place: place.fields)
+    """A plain or a signed field with one of the bits 23-16."""
+    picked = pick_field(rng, laid)
     if picked is None:
         return None
-    number, _, place = picked
-    index = rng.choice(place.fields)
-    return head_damage(number, index, laid.words[index] | spare_bit(rng, 16, 27))
+    number, index = picked
+    return head_damage(number, index, with_form(laid.words[index], rng.choice([NO_FORM, SIGNED]), spare_number(rng)))
+
+
+def field_spare_no_form(rng, laid):
+    """A form over 2 with one of these bits: "bits 23-16 stay spare for all other forms" (document 02's No. 7)."""
+    picked = pick_field(rng, laid)
+    if picked is None:
+        return None
+    number, index = picked
+    return head_damage(number, index, with_form(laid.words[index], some_wrong_form(rng), spare_number(rng)))
 
 
 def condition_spare(rng, laid):
@@ -810,9 +862,10 @@ def value_outside(rng, laid, among=masks):
 
 # --- fields and cover
 
-def field_damage(number, place, position, lowest, width):
+def field_damage(rng, number, place, position, lowest, width):
+    """A field with other bits, and with any form of their number."""
     index = place.fields[position]
-    return Damage(4, index, index, number, {index: field_word(lowest, width)})
+    return Damage(4, index, index, number, {index: field_word(lowest, width, *some_form(rng, width))})
 
 
 def field_empty(rng, laid):
@@ -822,7 +875,7 @@ def field_empty(rng, laid):
     number, plan, place = picked
     position = rng.randrange(len(place.fields))
     lowest = rng.choice([plan.fields[position][0], rng.randint(0, 255)])
-    return field_damage(number, place, position, lowest, 0)
+    return field_damage(rng, number, place, position, lowest, 0)
 
 
 def field_outside(rng, laid):
@@ -838,7 +891,7 @@ def field_outside(rng, laid):
     choices = [(lowest, top - lowest + 1), (top, 1), (255, 255), (lowest, 255), (rng.randint(32, 255), width)]
     if bottom > 0:
         choices += [(bottom - 1, lowest + width - bottom + 1), (bottom - 1, 1)]
-    return field_damage(number, place, position, *rng.choice(choices))
+    return field_damage(rng, number, place, position, *rng.choice(choices))
 
 
 def field_over_mask(rng, laid):
@@ -848,7 +901,7 @@ def field_over_mask(rng, laid):
     number, plan, place = picked
     position = rng.randrange(len(place.fields))
     bit = random_bit(rng, plan.mask).bit_length() - 1
-    return field_damage(number, place, position, bit, 1)
+    return field_damage(rng, number, place, position, bit, 1)
 
 
 def field_over_field(rng, laid):
@@ -859,7 +912,7 @@ def field_over_field(rng, laid):
     number, plan, place = picked
     position = rng.randrange(1, len(place.fields))
     lowest, width = plan.fields[rng.randrange(position)]
-    return field_damage(number, place, position, rng.randint(lowest, lowest + width - 1), 1)
+    return field_damage(rng, number, place, position, rng.randint(lowest, lowest + width - 1), 1)
 
 
 def cover_damage(number, place, edits):
@@ -876,7 +929,8 @@ def cover_field(rng, laid):
     number, plan, place = picked
     position = rng.choice([position for position, (_, width) in enumerate(plan.fields) if width > 1])
     lowest, width = plan.fields[position]
-    return cover_damage(number, place, {place.fields[position]: field_word(lowest + rng.randint(0, 1), width - 1)})
+    narrow = field_word(lowest + rng.randint(0, 1), width - 1, *some_form(rng, width - 1))
+    return cover_damage(number, place, {place.fields[position]: narrow})
 
 
 def cover_mask(rng, laid):
@@ -887,6 +941,40 @@ def cover_mask(rng, laid):
     number, plan, place = picked
     bit = random_bit(rng, plan.mask)
     return cover_damage(number, place, {place.head + 1: plan.mask & ~bit, place.head + 2: plan.value & ~bit})
+
+
+# --- forms of fields: 4 at the field
+
+def form_damage(rng, laid, form_for, fits=lambda word: True):
+    """A field whose form and fraction bits are those that the function makes of its width."""
+    picked = pick_field(rng, laid, fits)
+    if picked is None:
+        return None
+    number, index = picked
+    word = laid.words[index]
+    return Damage(4, index, index, number, {index: with_form(word, *form_for(word & 0xFF))})
+
+
+def some_wrong_form(rng):
+    return rng.choice([3, 3, 4, 8, 15, rng.randint(3, 15)])
+
+
+def form_over(rng, laid):
+    return form_damage(rng, laid, lambda width: (some_wrong_form(rng), 0))
+
+
+def fraction_over(rng, laid):
+    """More than 16 fraction bits, most often in a field that has so many; None if there is no such field."""
+    def some_fraction(width):
+        return FIXED, rng.choice([MOST_FRACTION + 1, width, 32, 255, rng.randint(MOST_FRACTION + 1, 255)])
+    return form_damage(rng, laid, some_fraction, lambda word: word & 0xFF > MOST_FRACTION)
+
+
+def fraction_wide(rng, laid):
+    """Fraction bits over the field's width, and most often not over 16."""
+    def some_fraction(width):
+        return FIXED, rng.choice([width + 1, width + 1, rng.randint(width + 1, MOST_FRACTION), 255])
+    return form_damage(rng, laid, some_fraction, lambda word: word & 0xFF < MOST_FRACTION)
 
 
 # --- cycles; None for a table of kind 1
@@ -931,8 +1019,8 @@ def opcode_before_cycles(rng, laid):
 
 def cycles_before_fields(rng, laid):
     """Too many cycles, and after them a wrong field, or bits that nothing covers."""
-    found = with_cycles_over(rng, laid, [fields_down, field_empty, field_outside, field_over_mask, field_over_field,
-                                         cover_field, cover_mask])
+    found = with_cycles_over(rng, laid, [fields_down, field_empty, field_outside, field_over_mask, field_over_field, form_over,
+                                         fraction_over, fraction_wide, cover_field, cover_mask])
     if found is None:
         return None
     damage, index = found
@@ -942,11 +1030,12 @@ def cycles_before_fields(rng, laid):
 DAMAGES = [
     empty_table, too_long, first_kind, first_spare, width_zero, width_over, entries_over,
     cut_short, words_after, entries_up, entries_down,
-    head_kind, field_spare, condition_spare, unmatching_spare,
+    head_kind, field_spare, field_spare_no_form, condition_spare, unmatching_spare,
     length_zero, length_over, fields_over, conditions_over, unmatching_over,
     fields_up, fields_down, conditions_up, conditions_down, unmatching_up, unmatching_down,
     mask_outside, value_outside,
     field_empty, field_outside, field_over_mask, field_over_field, cover_field, cover_mask,
+    form_over, fraction_over, fraction_wide,
     cycles_over, cycles_missing, opcode_before_cycles, cycles_before_fields,
 ]
 
@@ -1015,6 +1104,12 @@ def some_first_word(rng):
     return first_word(rng.randint(0, 3), rng.randint(1, 32), rng.choice([PLAIN, WITH_CYCLES]))
 
 
+def loose_field(rng, lowest, width):
+    """A field's word that is mostly good by itself; now and then a form or fraction bits that it can't have."""
+    return field_word(lowest, width, *rng.choice([(NO_FORM, 0), some_form(rng, width), some_form(rng, width),
+                                                  (rng.randint(0, 4), rng.randint(0, 3))]))
+
+
 def plausible_word(rng):
     """A word that may pass as some head, or as a small mask or value."""
     kind = rng.choice([1, 2, 2, 3, 3, 4, 5, 0, 0, None])
@@ -1027,7 +1122,7 @@ def plausible_word(rng):
     if kind == 2:
         return entry_word(rng.randrange(4096), rng.randint(1, 9), rng.randint(0, 2), rng.randint(0, 2))
     if kind == 3:
-        return field_word(rng.randint(0, 8), rng.randint(0, 4))
+        return loose_field(rng, rng.randint(0, 8), rng.randint(0, 4))
     if kind == 4:
         return condition_word(rng.randint(0, 2))
     return UNMATCHING_WORD
@@ -1053,7 +1148,7 @@ def loose_words(rng):
         words += [entry_word(0, rng.randint(1, width), fields, conditions), rng.getrandbits(width), 0]
         if kind == WITH_CYCLES:
             words.append(rng.choice([some_cycles(rng), some_cycles(rng), some_cycles(rng), too_many_cycles(rng)]))
-        words += [field_word(rng.randrange(width), rng.randint(1, 2)) for _ in range(fields)]
+        words += [loose_field(rng, rng.randrange(width), rng.randint(1, 2)) for _ in range(fields)]
         for _ in range(conditions):
             words += [condition_word(1), rng.getrandbits(width), 0]
             words += [UNMATCHING_WORD, rng.getrandbits(width), rng.getrandbits(1)]

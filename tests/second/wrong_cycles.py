@@ -5,7 +5,7 @@ test must notice it.
 from dataclasses import replace
 
 from second import cost, selection
-from second.reader import Field, Refusal, bits
+from second.reader import Field, Refusal, bits, form_of
 from second.tables import MOST_CYCLES, WITH_CYCLES
 from second.twins import heads_in, kind_of
 
@@ -123,7 +123,7 @@ def fields_at_cycles(words):
     table = RIGHT_READ(words)
     if isinstance(table, Refusal):
         return table
-    moved = [[Field(bits(word, 15, 8), bits(word, 7, 0)) for word in words[head + 3:head + 3 + len(entry.fields)]]
+    moved = [[Field(bits(word, 15, 8), bits(word, 7, 0), *form_of(word)) for word in words[head + 3:head + 3 + len(entry.fields)]]
              for head, entry in zip(heads_in(words), table.entries)]
     return replace(table, entries=tuple(replace(entry, fields=tuple(fields)) for entry, fields in zip(table.entries, moved)))
 

@@ -2,6 +2,7 @@
 use Prim.Native.Nat.{ℕ}
 use mathlib.Core.Path.{_≡_, refl}
 use mathlib.Core.List.{List, [], _∷_}
+use lib.IntN.{pos, negsuc}
 use Rattle.words.specs.Words.{part, bit}
 use Rattle.words.specs.Tests.{_and_}
 use Rattle.words.specs.Bytes.{wordOf, wordsOf}
@@ -9,7 +10,7 @@ use Rattle.flat.specs.Nodes.{headerRest, headerOf, testNode, namesNode, nothing
 use Rattle.flat.specs.Walk.{path, maskOf, enters, walkOf, maskOrZero}
 use Rattle.walker.specs.Walked.{walkBytes}
 use Rattle.words.specs.Outcome.{result, faulty, refused}
-use Rattle.kilnumber.specs.Packed.{packed, packedNumber, packedCheck, packedMeasure}
+use Rattle.kilnumber.specs.Packed.{packed, packedNumber, packedCheck, packedMeasure, packedSigned}
 
 -- what the call answers, with every definition open
 unfoldable answered : List ℕ → ℕ → ℕ
@@ -74,3 +75,19 @@ cost-is = refl
 
 no-entry-is : packedNumber (refused 11 0 0) ≡ 0xb00000000
 no-entry-is = refl
+
+-- operands: −8, and the greatest number; a stored value; out of range (12); no room for a text (18)
+eight-below-is : packedSigned (result (negsuc 7)) ≡ 0x100fffffff8
+eight-below-is = refl
+
+greatest-is : packedSigned (result (pos 4294967295)) ≡ 0xffffffff
+greatest-is = refl
+
+value-is : packedNumber (result 0xf8) ≡ 0xf8
+value-is = refl
+
+out-of-range-is : packedSigned (refused 12 0 0) ≡ 0xc00000000
+out-of-range-is = refl
+
+no-room-is : packedNumber (refused 18 0 0) ≡ 0x1200000000
+no-room-is = refl

@@ -1,3 +1,4 @@
 pub mod Simulator
 pub mod Masks
 pub mod Examples
+pub mod Narrowing

@@ -1,12 +1,15 @@
 // The C face: a walk of a tree that is given as bytes, the size of a table's tree, the check of a tree against its table, the listing
-// of an image, and the cycles of an entry; each answer in 64 bits. include/kilnumber.h is its header.
+// of an image, the cycles of an entry, and the numbers and texts of operands; each answer in 64 bits. include/kilnumber.h is its header.
 use checker::Checked;
 use cost::Costed;
 use image::Listed;
 use maker::Measured;
+use numbers::SignedNumber;
+use numbers::StoredValue;
+use numbers::TextLength;
 use walker::Walked;
 ghost use mathlib.Core.Path.{_≡_};
-ghost use Prim.Native.Nat.{ℕ};
+ghost use Prim.Native.Nat.{ℕ, _<_, _^_};
 ghost use Rattle.flat.specs.Walk.{maskOrZero};
 ghost use Rattle.walker.specs.Walked.{said, Small, walkBytes};
 ghost use Rattle.image.specs.Listing.{saidList};
@@ -15,7 +18,10 @@ ghost use Rattle.tree.specs.Generate.{measureOf};
 ghost use Rattle.maker.specs.Answers.{saidMeasure};
 ghost use Rattle.checker.specs.Checker.{checkOf, said as saidCheck};
 ghost use Rattle.cost.specs.Cost.{cyclesOf, said as saidCycles};
-ghost use Rattle.kilnumber.specs.Packed.{packed, packedNumber, packedCheck, packedMeasure, ListsPacked};
+ghost use Rattle.numbers.specs.Whole.{onSide};
+ghost use Rattle.numbers.specs.Calls.{signedOf, storedOf};
+ghost use Rattle.numbers.specs.Answers.{saidSigned, saidStored, saidText};
+ghost use Rattle.kilnumber.specs.Packed.{packed, packedNumber, packedCheck, packedMeasure, packedWhole, packedSigned, Narrow, ListsPacked, WritesPacked};
 
 // An answer in 64 bits.
 fn pack(answer: Walked) -> u64
@@ -130,4 +136,81 @@ pub extern "C" fn kilnumber_cycles(table: &[u32], entry: u32) -> u64
 {
     let answer = cost::cycles(table, entry);
     pack_cycles(answer)
+}
+
+// A whole number of at most 32 bits beside its sign, in 64 bits.
+fn pack_whole(below: bool, size: u64) -> u64
+    requires { ⌜ size < 2 ^ 32 ⌝ }
+    ensures { λ r. ⌜ r ≡ packedWhole (onSide below size) ⌝ }
+{
+    if below {
+        1099511627776 + (4294967295 - size)
+    } else {
+        size
+    }
+}
+
+// A signed number's answer in 64 bits.
+fn pack_signed(answer: SignedNumber) -> u64
+    requires { ⌜ Narrow (saidSigned answer) ⌝ }
+    ensures { λ r. ⌜ r ≡ packedSigned (saidSigned answer) ⌝ }
+{
+    match answer {
+        SignedNumber::Number(number) => {
+            let side = numbers::side_of(number);
+            pack_whole(side.below, side.size)
+        }
+        SignedNumber::OutOfRange => 12 * 4294967296,
+        SignedNumber::Fault(number) => (number as u64) * 4294967296,
+    }
+}
+
+// What a simulator calls to show an operand: the signed whole number of a field's stored value.
+#[no_mangle]
+pub extern "C" fn kilnumber_signed(field: u32, value: u32) -> u64
+    ensures { λ r. ⌜ r ≡ packedSigned (signedOf field value) ⌝ }
+{
+    let answer = numbers::signed(field, value);
+    pack_signed(answer)
+}
+
+// A stored value's answer in 64 bits.
+fn pack_stored(answer: StoredValue) -> u64
+    ensures { λ r. ⌜ r ≡ packedNumber (saidStored answer) ⌝ }
+{
+    match answer {
+        StoredValue::Value(value) => value as u64,
+        StoredValue::OutOfRange => 12 * 4294967296,
+        StoredValue::Fault(number) => (number as u64) * 4294967296,
+    }
+}
+
+// What an assembler calls: the stored value of a signed whole number.
+#[no_mangle]
+pub extern "C" fn kilnumber_stored(field: u32, number: i64) -> u64
+    ensures { λ r. ⌜ r ≡ packedNumber (storedOf field number) ⌝ }
+{
+    let answer = numbers::stored(field, number);
+    pack_stored(answer)
+}
+
+// A text's answer in 64 bits.
+fn pack_length(answer: TextLength) -> u64
+    ensures { λ r. ⌜ r ≡ packedNumber (saidText answer) ⌝ }
+{
+    match answer {
+        TextLength::Length(length) => length as u64,
+        TextLength::NoRoom => 18 * 4294967296,
+        TextLength::OutOfRange => 12 * 4294967296,
+        TextLength::Fault(number) => (number as u64) * 4294967296,
+    }
+}
+
+// What a simulator calls to print an operand: its exact decimal text at the start of a buffer.
+#[no_mangle]
+pub extern "C" fn kilnumber_text(field: u32, value: u32, out: &mut [u8]) -> u64
+    ensures { λ r. ⌜ WritesPacked field value (now (out .entry)) (now (out .exit)) r ⌝ }
+{
+    let answer = numbers::put_text(field, value, out);
+    pack_length(answer)
 }

@@ -14,8 +14,8 @@ use borrow.Author.Tests.{ltb-true, eqb-true}
 use Rattle.words.proofs.Bits.{and-assoc, and-or}
 use Rattle.words.specs.Words.{part, run}
 use Rattle.table.specs.Table.{Field, fieldsAt, fieldBits, ownBits}
-use Rattle.table.specs.Check.{fine, fieldsCheck, fieldCheck, fieldRule}
-use Rattle.table.proofs.Laws.{then-l, then-r, need-true}
+use Rattle.table.specs.Check.{fine, fieldsCheck}
+use Rattle.table.proofs.Laws.{then-l, then-r, need-true, field-apart}
 use Rattle.operands.specs.Fields.{valuesIn, placed, misfit}
 
 -- the bits of a field
@@ -29,10 +29,10 @@ Covered own used (f ∷ fs) = (bitAnd used (bitsOf f) ≡ 0) × Covered own (bit
 
 -- so says the reader's check
 pub covered : (ws : List ℕ) (e width size used n p : ℕ) → fieldsCheck ws e width size used n p ≡ fine → Covered (ownBits width size) used (fieldsAt ws n p)
-unfolding fieldsCheck fieldsAt Covered fieldCheck fieldRule fieldBits
+unfolding fieldsCheck fieldsAt Covered fieldBits
 covered ws e width size used zero p t = eqb-true _ _ (need-true _ _ _ t)
 covered ws e width size used (suc n) p t = (
-  eqb-true _ _ (need-true _ _ _ (then-r _ _ (then-r _ _ (then-r _ _ (then-r _ _ (then-r _ _ (then-r _ _ (then-l _ _ t)))))))),
+  field-apart ws width size used p (then-l _ _ t),
   covered ws e width size _ n (p + 1) (then-r _ _ t),
 )
 

@@ -10,6 +10,9 @@ use libc::STDIN_FILENO;
 use libc::STDOUT_FILENO;
 use maker::Generated;
 use maker::Measured;
+use numbers::SignedNumber;
+use numbers::StoredValue;
+use numbers::TextLength;
 use operands::Decoding;
 use operands::Encoding;
 use selection::Selected;
@@ -25,7 +28,7 @@ const MOST_BYTES: usize = 1048576;
 const MOST_WORDS: usize = 262144;
 
 // Requests are numbered from 1.
-const LAST_NUMBER: u32 = 13;
+const LAST_NUMBER: u32 = 16;
 
 const MOST_PARTS: u32 = 8;
 
@@ -127,9 +130,27 @@ fn number_in(ws: &[u32], part: usize) -> u32 {
     words::word_at(words_in(ws, part), 0)
 }
 
+// The whole number that a part is: its first two words, low word first, in two's complement.
+fn long_in(ws: &[u32], part: usize) -> i64 {
+    let both = words_in(ws, part);
+    let high = words::word_at(both, 1) as u64;
+    let long = words::word_at(both, 0) as u64 + high * 4294967296;
+    if long < 9223372036854775808 {
+        return long as i64;
+    }
+    -1 - (18446744073709551615 - long) as i64
+}
+
 // A buffer to lend: a copy of a part's whole words, since the other parts are lent at the same time.
 fn lent<'a>(room: &'a mut [u32], bytes: &[u8], part: usize) -> &'a mut [u32] {
     let size = words::words_of(bytes_in(bytes, part), room);
+    let end = words::lesser(size, room.len());
+    &mut room[0..end]
+}
+
+// The same of a part's bytes.
+fn lent_bytes<'a>(room: &'a mut [u8], bytes: &[u8], part: usize) -> &'a mut [u8] {
+    let size = text::put_bytes(room, 0, bytes_in(bytes, part));
     let end = words::lesser(size, room.len());
     &mut room[0..end]
 }
@@ -186,6 +207,17 @@ fn put_word(page: &mut [u8], at: usize, w: u32) -> usize {
     put_digits(page, next, w)
 }
 
+// A space and a whole number of fewer than 33 bits beside its sign, in decimal.
+fn put_whole(page: &mut [u8], at: usize, number: i64) -> usize {
+    let side = numbers::side_of(number);
+    let size = side.size % 4294967296;
+    if !side.below {
+        return put_number(page, at, size as u32);
+    }
+    let next = put(page, at, b" -");
+    put_decimal(page, next, ((size + 1) % 4294967296) as u32)
+}
+
 // Why something is refused, or zeros.
 fn put_cause(page: &mut [u8], at: usize, cause: Cause) -> usize {
     let number = put_number(page, at, cause.number);
@@ -199,6 +231,25 @@ fn put_buffer(page: &mut [u8], at: usize, words: &[u32]) -> usize {
     let mut i = 0;
     while i < words.len() {
         next = put_word(page, next, words[i]);
+        i += 1;
+    }
+    next
+}
+
+// A space and a byte, in two digits.
+fn put_byte(page: &mut [u8], at: usize, b: u8) -> usize {
+    let mut digits = [0u8; 8];
+    text::put_hex(&mut digits, 0, b as u32);
+    let next = put(page, at, b" ");
+    put(page, next, &digits[6..])
+}
+
+// The bytes of a buffer after a call.
+fn put_byte_buffer(page: &mut [u8], at: usize, bytes: &[u8]) -> usize {
+    let mut next = put(page, at, b" |");
+    let mut i = 0;
+    while i < bytes.len() {
+        next = put_byte(page, next, bytes[i]);
         i += 1;
     }
     next
@@ -387,6 +438,41 @@ fn put_cycles(page: &mut [u8], at: usize, ws: &[u32], parts: Parts) -> usize {
     }
 }
 
+// Request 14.
+fn put_signed(page: &mut [u8], at: usize, ws: &[u32], parts: Parts) -> usize {
+    let answer = numbers::signed(number_in(ws, parts[0]), number_in(ws, parts[1]));
+    let next = put_cause(page, at, answer.cause());
+    match answer {
+        SignedNumber::Number(number) => put_whole(page, next, number),
+        _ => next,
+    }
+}
+
+// Request 15.
+fn put_stored(page: &mut [u8], at: usize, ws: &[u32], parts: Parts) -> usize {
+    let answer = numbers::stored(number_in(ws, parts[0]), long_in(ws, parts[1]));
+    let next = put_cause(page, at, answer.cause());
+    match answer {
+        StoredValue::Value(value) => put_word(page, next, value),
+        _ => next,
+    }
+}
+
+// Request 16.
+fn put_length(page: &mut [u8], at: usize, answer: TextLength) -> usize {
+    let next = put_cause(page, at, answer.cause());
+    match answer {
+        TextLength::Length(length) => put_number(page, next, length),
+        _ => next,
+    }
+}
+
+fn put_text(page: &mut [u8], at: usize, ws: &[u32], parts: Parts, out: &mut [u8]) -> usize {
+    let answer = numbers::put_text(number_in(ws, parts[0]), number_in(ws, parts[1]), out);
+    let end = put_length(page, at, answer);
+    put_byte_buffer(page, end, out)
+}
+
 // What follows a request's number on its line.
 fn put_answer(
     page: &mut [u8],
@@ -395,6 +481,7 @@ fn put_answer(
     ws: &[u32],
     request: Request,
     room: &mut [u32],
+    byte_room: &mut [u8],
 ) -> usize {
     let number = request.number;
     let parts = request.parts;
@@ -412,6 +499,9 @@ fn put_answer(
         11 => put_mask(page, at, bytes, ws, parts),
         12 => put_measure(page, at, ws, parts),
         13 => put_cycles(page, at, ws, parts),
+        14 => put_signed(page, at, ws, parts),
+        15 => put_stored(page, at, ws, parts),
+        16 => put_text(page, at, ws, parts, lent_bytes(byte_room, bytes, parts[2])),
         _ => at,
     }
 }
@@ -424,14 +514,21 @@ fn put_line(
     ws: &[u32],
     request: Request,
     room: &mut [u32],
+    byte_room: &mut [u8],
 ) -> usize {
     let first = put_decimal(page, at, request.number);
-    let end = put_answer(page, first, bytes, ws, request, room);
+    let end = put_answer(page, first, bytes, ws, request, room, byte_room);
     put(page, end, b"\n")
 }
 
 // Puts a line for each request, up to one that stops the program. The words are those of the bytes.
-fn put_lines(page: &mut [u8], bytes: &[u8], ws: &[u32], room: &mut [u32]) -> usize {
+fn put_lines(
+    page: &mut [u8],
+    bytes: &[u8],
+    ws: &[u32],
+    room: &mut [u32],
+    byte_room: &mut [u8],
+) -> usize {
     if MOST_BYTES < bytes.len() {
         return put_stopped(page, 0, 0);
     }
@@ -445,7 +542,7 @@ fn put_lines(page: &mut [u8], bytes: &[u8], ws: &[u32], room: &mut [u32]) -> usi
         if next <= index {
             return put_stopped(page, at, index as u32);
         }
-        at = put_line(page, at, bytes, ws, request, room);
+        at = put_line(page, at, bytes, ws, request, room, byte_room);
         index = next;
     }
     at
@@ -472,7 +569,9 @@ fn main() {
     let mut space = zero_words();
     let whole = words::words_of(asked, &mut space);
     let mut room = zero_words();
+    let mut byte_room = zero_bytes();
     let mut page = io::large_buffer();
-    let end = put_lines(&mut page, asked, first_words(&space, whole), &mut room);
+    let ws = first_words(&space, whole);
+    let end = put_lines(&mut page, asked, ws, &mut room, &mut byte_room);
     flush(&page, end);
 }

@@ -9,7 +9,7 @@ use borrow.Author.Tests.{leb-false}
 use Rattle.words.specs.Outcome.{faulty}
 use Rattle.words.proofs.Logic.{cases}
 use Rattle.table.specs.Table.{Table, conditionEnd, hasCycles, fieldsPlace, entryEnd, tableOf}
-use Rattle.table.specs.Check.{Check, fine, fault, _then_, need, has, patternCheck, unmatchingCheck, unmatchingsCheck, conditionCheck, conditionsCheck, fieldRule, fieldCheck, fieldsCheck, headCheck, cyclesCheck, entryCheck, entriesCheck, firstCheck, tableCheck, tableFault, reading, readTable}
+use Rattle.table.specs.Check.{Check, fine, fault, _then_, need, has, patternCheck, unmatchingCheck, unmatchingsCheck, conditionCheck, conditionsCheck, fieldWord, fieldRule, fieldCheck, fieldsCheck, headCheck, cyclesCheck, entryCheck, entriesCheck, firstCheck, tableCheck, tableFault, reading, readTable}
 use Rattle.table.proofs.Laws.{has-fits, head-fits}
 
 -- no fault, or one of 1 to 4 whose place is at most n
@@ -66,10 +66,11 @@ module _ (ws : List ℕ) where
 
   module _ (width size : ℕ) where
     near-field : (used p : ℕ) → Near (length ws) (fieldCheck ws width size used p)
-    unfolding fieldCheck fieldRule
+    unfolding fieldCheck fieldWord fieldRule
     near-field used p =
         here p 1 _ (λ h. let l : p ≤ length ws = omega arith in
-        on _ _ _ _ _ refl l (on _ _ _ _ _ refl l (on _ _ _ _ _ refl l (on _ _ _ _ _ refl l (on _ _ _ _ _ refl l (last _ _ _ _ refl l))))))
+        near-then _ _ _ (on _ _ _ _ _ refl l (on _ _ _ _ _ refl l (last _ _ _ _ refl l)))
+        (λ t. on _ _ _ _ _ refl l (on _ _ _ _ _ refl l (on _ _ _ _ _ refl l (last _ _ _ _ refl l)))))
 
     near-fields : (e used n p : ℕ) → e ≤ length ws → Near (length ws) (fieldsCheck ws e width size used n p)
     unfolding fieldsCheck

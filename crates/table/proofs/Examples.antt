@@ -5,25 +5,26 @@ use Prim.Native.Nat.{ℕ, _<_}
 use native.Mathlib.Omega.{arith}
 use lib.ListN.{length}
 use borrow.Author.Tests.{le-leb, lt-leb}
-use Rattle.words.specs.Tests.{_or_}
+use Rattle.words.specs.Tests.{_and_, _or_}
 use Rattle.words.specs.Words.{part, run, includes}
 use Rattle.words.specs.Outcome.{Outcome, result, faulty}
 use Rattle.table.specs.Table.{Pattern, Field, Condition, Entry, Table, fieldBits, fieldsAt, unmatchingAt, conditionsAt, conditionsEnd, hasCycles, fieldsPlace, cyclesAt, entriesAt}
-use Rattle.table.specs.Check.{_then_, need, patternCheck, unmatchingCheck, unmatchingsCheck, conditionCheck, conditionsCheck, fieldRule, fieldCheck, fieldsCheck, headCheck, cyclesCheck, entryCheck, entriesCheck, firstCheck, tableCheck, readTable}
+use Rattle.table.specs.Check.{_then_, need, patternCheck, unmatchingCheck, unmatchingsCheck, conditionCheck, conditionsCheck, spareClear, formFits, fieldWord, fieldRule, fieldCheck, fieldsCheck, headCheck, cyclesCheck, entryCheck, entriesCheck, firstCheck, tableCheck, readTable}
 use Rattle.table.specs.Answer.{shapeOf}
 use Rattle.table.specs.Worked.{printed, costed, worked}
 use Rattle.table.proofs.Laws.{checks}
 
 -- what reading a table says, with every definition open
 unfoldable pub opened : List ℕ → Outcome Table
-unfolding part run includes fieldBits fieldsAt unmatchingAt conditionsAt conditionsEnd hasCycles fieldsPlace cyclesAt entriesAt _or_ _then_ need patternCheck unmatchingCheck unmatchingsCheck conditionCheck conditionsCheck fieldRule fieldCheck fieldsCheck headCheck cyclesCheck entryCheck entriesCheck firstCheck tableCheck
+unfolding part run includes fieldBits fieldsAt unmatchingAt conditionsAt conditionsEnd hasCycles fieldsPlace cyclesAt entriesAt _and_ _or_ _then_ need patternCheck unmatchingCheck unmatchingsCheck conditionCheck conditionsCheck spareClear formFits fieldWord fieldRule fieldCheck fieldsCheck headCheck cyclesCheck entryCheck entriesCheck firstCheck tableCheck
 opened ws = readTable ws
 
 abbrev pattern : ℕ → ℕ → Pattern
 pattern m v = record { mask = m; value = v }
 
+-- a plain field
 abbrev field : ℕ → ℕ → Field
-field l w = record { low = l; width = w }
+field l w = record { low = l; width = w; form = 0; fraction = 0 }
 
 -- ---- the tables of document 01
 
@@ -39,6 +40,16 @@ costed-reads :
     ≡ result (record { width = 2; entries = record { label = 5; size = 2; opcode = pattern 2 2; cycles = 77; fields = field 0 1 ∷ []; conditions = [] } ∷ [] })
 unfolding opened
 costed-reads = refl
+
+-- with a field of fixed point, whose one bit is a fraction bit
+formed-reads :
+    readTable (0x10010002 ∷ 0x20050210 ∷ 2 ∷ 2 ∷ 0x32010001 ∷ [])
+    ≡ result (record {
+      width = 2;
+      entries = record { label = 5; size = 2; opcode = pattern 2 2; cycles = 0; fields = record { low = 0; width = 1; form = 2; fraction = 1 } ∷ []; conditions = [] } ∷ [];
+    })
+unfolding opened
+formed-reads = refl
 
 -- an entry of the worked table
 abbrev entry : ℕ → Pattern → List Field → List Condition → Entry
@@ -176,6 +187,28 @@ fields :
     ≡ faulty 4 4 ∷ faulty 4 4 ∷ faulty 4 4 ∷ faulty 4 4 ∷ faulty 4 5 ∷ faulty 4 1 ∷ faulty 4 1 ∷ []
 unfolding opened
 fields = refl
+
+-- forms. Good: two's complement; fixed point without fraction bits, and with 16. Number 2: a spare bit of form 1, and of form 3, which is 4 too.
+-- Number 4: forms 3 and 15; more fraction bits than the width; 17 of them
+forms :
+    map shapeOf (
+    refusals (
+    (0x10010002 ∷ 0x20000210 ∷ 2 ∷ 2 ∷ 0x31000001 ∷ [])
+    ∷ (0x10010002 ∷ 0x20000210 ∷ 2 ∷ 2 ∷ 0x32000001 ∷ [])
+    ∷ (0x10010020 ∷ 0x20002010 ∷ 0x80000000 ∷ 0 ∷ 0x3210001f ∷ [])
+    ∷ (0x10010002 ∷ 0x20000210 ∷ 2 ∷ 2 ∷ 0x31010001 ∷ [])
+    ∷ (0x10010002 ∷ 0x20000210 ∷ 2 ∷ 2 ∷ 0x33010001 ∷ [])
+    ∷ (0x10010002 ∷ 0x20000210 ∷ 2 ∷ 2 ∷ 0x33000001 ∷ [])
+    ∷ (0x10010002 ∷ 0x20000210 ∷ 2 ∷ 2 ∷ 0x3f000001 ∷ [])
+    ∷ (0x10010002 ∷ 0x20000210 ∷ 2 ∷ 2 ∷ 0x32020001 ∷ [])
+    ∷ (0x10010020 ∷ 0x20002010 ∷ 0x80000000 ∷ 0 ∷ 0x3211001f ∷ [])
+    ∷ []
+    )
+    )
+    ≡ result (record { width = 2; entries = 1 }) ∷ result (record { width = 2; entries = 1 }) ∷ result (record { width = 32; entries = 1 })
+    ∷ faulty 2 4 ∷ faulty 2 4 ∷ faulty 4 4 ∷ faulty 4 4 ∷ faulty 4 4 ∷ faulty 4 4 ∷ []
+unfolding opened
+forms = refl
 
 -- kind 6. Good: no entries; cycles 0 and 65,535. Number 2: cycles of 17 bits, and of 32, at their word; none, with the length, of an entry
 -- with a field and of one without

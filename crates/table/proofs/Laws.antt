@@ -8,18 +8,18 @@ use mathlib.Core.Logic.{⊎-elim, inl, inr}
 use types.Run.{OneOf}
 use native.Mathlib.Numerals.{sub-one, add-one}
 use native.Mathlib.Omega.{arith}
-use lib.Bits.{bitOr}
+use lib.Bits.{bitAnd, bitOr}
 use lib.Dec.{eqb, leb, ltb}
 use lib.ListN.{length, getD, set}
 use lib.Seq.{getD-set-same, getD-set-other}
 use borrow.Author.Tests.{eq-eqb, ne-eqb, eqb-true, eqb-false, ltb-true, ltb-false, leb-true, lt-leb, le-leb, lt-ltb, le-ltb}
-use Rattle.words.specs.Words.{word}
-use Rattle.words.specs.Tests.{_or_}
+use Rattle.words.specs.Words.{word, part}
+use Rattle.words.specs.Tests.{_and_, _or_}
 use Rattle.words.proofs.Logic.{cases, or-i, or-il, or-ir}
 use Rattle.words.specs.Outcome.{result, faulty}
-use Rattle.table.specs.Table.{fieldLow, fieldWidth, fieldBits, ownBits, sizeOf, fieldsOf, conditionsOf, conditionEnd, conditionsEnd, hasCycles, fieldsPlace, entryEnd, entryPlace, entriesAt, countOf, widthOf}
-use Rattle.table.specs.Check.{Check, fine, fault, _then_, need, has, patternCheck, unmatchingCheck, unmatchingsCheck, conditionCheck, conditionsCheck, fieldRule, fieldCheck, fieldsCheck, headCheck, cyclesCheck, entryCheck, entriesCheck, firstCheck, tableCheck, readTable}
-use Rattle.table.specs.Answer.{step, shapeOf, placeOf, Placed}
+use Rattle.table.specs.Table.{kindOf, fieldLow, fieldWidth, fieldBits, formOf, fractionOf, ownBits, sizeOf, fieldsOf, conditionsOf, conditionEnd, conditionsEnd, hasCycles, fieldsPlace, entryEnd, entryPlace, entriesAt, countOf, widthOf}
+use Rattle.table.specs.Check.{Check, fine, fault, _then_, need, has, patternCheck, unmatchingCheck, unmatchingsCheck, conditionCheck, conditionsCheck, spareClear, formFits, fieldWord, fieldRule, fieldCheck, fieldsCheck, headCheck, cyclesCheck, entryCheck, entriesCheck, firstCheck, tableCheck, readTable}
+use Rattle.table.specs.Answer.{step, faultNumber, shapeOf, placeOf, Placed}
 use Rattle.table.specs.declared.Step.{Step}
 use Rattle.table.specs.declared.Step.the-variants.{Next, Fault}
 
@@ -48,7 +48,15 @@ pub step-of-fault : (n p q : ℕ) → step (fault n p) q ≡ Fault n p
 unfolding step
 step-of-fault n p q = refl
 
-pub ruleset checks = (need-yes, need-no, fine-then, fault-then, step-of-fine, step-of-fault)
+pub number-of-fine : faultNumber fine ≡ 0
+unfolding faultNumber
+number-of-fine = refl
+
+pub number-of-fault : (n p : ℕ) → faultNumber (fault n p) ≡ n
+unfolding faultNumber
+number-of-fault n p = refl
+
+pub ruleset checks = (need-yes, need-no, fine-then, fault-then, step-of-fine, step-of-fault, number-of-fine, number-of-fault)
 
 -- a callee's fault is the first fault of what begins with its check
 pub step-fault : (v w : Check) (q q′ n p : ℕ) → step v q ≡ Fault n p → Fault n p ≡ step (v then w) q′
@@ -189,6 +197,44 @@ module _ (ws : List ℕ) (own : ℕ) where
   condition-next p q e = rw (next-place _ _ _ e) (condition-fits p (next-fine _ _ _ e))
 
 -- ---- fields
+
+-- a word's fault, wherever it stands: three tests, and a number for each
+module _ (a b d : ℕ) where
+  three-stop : (k s f : Bool) (p : ℕ) → (faultNumber (need k a 0 then need s b 0 then need f d 0) ≡ 0 → ⊥)
+      → (need k a p then need s b p then need f d p) ≡ fault (faultNumber (need k a 0 then need s b 0 then need f d 0)) p
+  unfolding faultNumber need _then_
+  three-stop false s f p h = refl
+  three-stop true false f p h = refl
+  three-stop true true false p h = refl
+  three-stop true true true p h = absurd (h refl)
+
+  three-pass : 0 < a → 0 < b → 0 < d → (k s f : Bool) (p q : ℕ) → faultNumber (need k a q then need s b q then need f d q) ≡ 0
+      → (need k a p then need s b p then need f d p) ≡ fine
+  unfolding faultNumber need _then_
+  three-pass x y z false s f p q h = absurd (omega (arith, h))
+  three-pass x y z true false f p q h = absurd (omega (arith, h))
+  three-pass x y z true true false p q h = absurd (omega (arith, h))
+  three-pass x y z true true true p q h = refl
+
+module _ (w p : ℕ) where
+  pub word-stops : (faultNumber (fieldWord w 0) ≡ 0 → ⊥) → fieldWord w p ≡ fault (faultNumber (fieldWord w 0)) p
+  unfolding fieldWord
+  word-stops = three-stop _ _ _ (eqb (kindOf w) 3) (spareClear w) (formFits w) p
+
+  pub word-passes : (q : ℕ) → faultNumber (fieldWord w q) ≡ 0 → fieldWord w p ≡ fine
+  unfolding fieldWord
+  word-passes q = three-pass _ _ _ (omega arith) (omega arith) (omega arith) (eqb (kindOf w) 3) (spareClear w) (formFits w) p q
+
+-- a plain word has none
+plain-parts : (w : ℕ) → part w 16 16 ≡ 0x3000 → (kindOf w ≡ 3) × (formOf w ≡ 0) × (fractionOf w ≡ 0)
+unfolding part
+plain-parts w e = (omega (arith, e), omega (arith, e), omega (arith, e))
+
+pub word-plain : (w : ℕ) → part w 16 16 ≡ 0x3000 → fieldWord w 0 ≡ fine
+unfolding fieldWord spareClear formFits _and_ _or_
+word-plain w e = let p = plain-parts w e in
+    simp (p .0, p .1, p .2, le-leb 0 (fieldWidth w) (omega arith), checks)
+
 module _ (ws : List ℕ) (width size used p : ℕ) where
   -- a field without fault stands in the table, and its bits are some, below the width
   pub field-fits : fieldCheck ws width size used p ≡ fine → p + 1 ≤ length ws
@@ -197,7 +243,12 @@ module _ (ws : List ℕ) (width size used p : ℕ) where
 
   field-rule : fieldCheck ws width size used p ≡ fine → fieldRule width size used (word ws p) p ≡ fine
   unfolding fieldCheck
-  field-rule e = then-r _ _ (then-r _ _ (then-r _ _ e))
+  field-rule e = then-r _ _ (then-r _ _ e)
+
+  -- its word has no fault by itself
+  pub field-word : fieldCheck ws width size used p ≡ fine → fieldWord (word ws p) 0 ≡ fine
+  unfolding fieldCheck
+  field-word e = word-passes (word ws p) 0 p (ap faultNumber (then-l _ _ (then-r _ _ e)) ∙ number-of-fine)
 
   pub field-some : fieldCheck ws width size used p ≡ fine → 0 < fieldWidth (word ws p)
   unfolding fieldRule
@@ -206,6 +257,11 @@ module _ (ws : List ℕ) (width size used p : ℕ) where
   pub field-below : fieldCheck ws width size used p ≡ fine → fieldLow (word ws p) + fieldWidth (word ws p) ≤ width
   unfolding fieldRule
   field-below e = leb-true _ _ (need-true _ _ _ (then-l _ _ (then-r _ _ (then-r _ _ (field-rule e)))))
+
+  -- none of them is used
+  pub field-apart : fieldCheck ws width size used p ≡ fine → bitAnd used (fieldBits (word ws p)) ≡ 0
+  unfolding fieldRule
+  field-apart e = eqb-true _ _ (need-true _ _ _ (then-r _ _ (then-r _ _ (then-r _ _ (field-rule e)))))
 
 module _ (ws : List ℕ) (e width size : ℕ) where
   pub fields-on : (used n p q : ℕ) → 0 < n → step (fieldCheck ws width size used p) (p + 1) ≡ Next q

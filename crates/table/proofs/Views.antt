@@ -10,7 +10,7 @@ use Rattle.words.specs.Words.{word}
 use Rattle.words.specs.Outcome.{result, faulty}
 use Rattle.words.proofs.Logic.{cases}
 use Rattle.table.specs.Table.{Table, Entry, widthOf, countOf, sizeOf, fieldsOf, hasCycles, opcodePlace, fieldsPlace, cyclesAt, entryAt, entriesAt, entryPlace, tableOf}
-use Rattle.table.specs.Check.{Check, fine, fault, reading, readTable, tableCheck, firstCheck, fieldsCheck, headCheck, cyclesCheck, entryCheck, entriesCheck}
+use Rattle.table.specs.Check.{Check, fine, fault, reading, readTable, tableCheck, firstCheck, fieldCheck, fieldsCheck, usedBefore, headCheck, cyclesCheck, entryCheck, entriesCheck}
 use Rattle.table.specs.Ready.{Ready}
 use Rattle.table.specs.Answer.{Shape, shapeOf, said, Reads}
 use Rattle.table.specs.declared.Answer.the-variants.{Accepted, Refused}
@@ -46,6 +46,29 @@ module _ (ws : List ℕ) (width p : ℕ) (e : entryCheck ws width p ≡ fine) wh
   pub entry-few-fields : fieldsOf (word ws p) ≤ 8
   unfolding headCheck
   entry-few-fields = leb-true _ _ (need-true _ _ _ (then-l _ _ (then-r _ _ (then-r _ _ (then-r _ _ (then-r _ _ entry-head))))))
+
+-- ---- field j of an entry, by its place
+
+module _ (ws : List ℕ) (e width size : ℕ) where
+  -- each field of an entry without fault is without fault
+  pub field-at : (j n used p : ℕ) → fieldsCheck ws e width size used n p ≡ fine → j < n → fieldCheck ws width size (usedBefore ws used j p) (p + j) ≡ fine
+  unfolding fieldsCheck usedBefore
+  field-at j zero used p c h = absurd (omega arith)
+  field-at zero (suc n) used p c h = rw add-zero (then-l _ _ c)
+  field-at (suc j) (suc n) used p c h =
+      let g : p + 1 + j ≡ p + suc j = omega arith in
+      rw g at (field-at j n _ (p + 1) (then-r _ _ c) (omega arith))
+
+  -- the first field with a fault is the entry's
+  pub field-stops : (j n used p a b : ℕ) → ((i : ℕ) → i < j → fieldCheck ws width size (usedBefore ws used i p) (p + i) ≡ fine) → j < n
+      → fieldCheck ws width size (usedBefore ws used j p) (p + j) ≡ fault a b → fieldsCheck ws e width size used n p ≡ fault a b
+  unfolding fieldsCheck usedBefore
+  field-stops j zero used p a b f h c = absurd (omega arith)
+  field-stops zero (suc n) used p a b f h c = rw (rw add-zero at c, fault-then)
+  field-stops (suc j) (suc n) used p a b f h c =
+      let g : (i : ℕ) → p + suc i ≡ p + 1 + i = λ i. omega arith in
+      let first : fieldCheck ws width size used p ≡ fine = rw add-zero at (f 0 (omega arith)) in
+      rw (first, fine-then) (field-stops j n _ (p + 1) a b (λ i l. rw (g i) at (f (suc i) (omega arith))) (omega arith) (rw (g j) at c))
 
 -- ---- entry k, by its place
 

@@ -15,6 +15,13 @@ use Rattle.table.specs.declared.Answer.the-variants.{Accepted, Refused}
 use Rattle.table.specs.declared.Places.{Places}
 use Rattle.table.specs.declared.Reading.{Reading}
 
+-- ---- a field's word by itself
+
+-- the number of a fault, 0 without one
+unfoldable pub faultNumber : Check → ℕ
+faultNumber fine = 0
+faultNumber (fault n p) = n
+
 -- ---- the public call
 
 -- what a table without fault gives: its width and its number of entries

@@ -5,10 +5,10 @@ use mathlib.Core.List.{List}
 use lib.Bits.{bitAnd, bitOr}
 use lib.Dec.{eqb, leb}
 use lib.ListN.{length}
-use Rattle.words.specs.Tests.{_or_}
+use Rattle.words.specs.Tests.{_and_, _or_}
 use Rattle.words.specs.Words.{word, bits, includes}
 use Rattle.words.specs.Outcome.{Outcome, result, faulty}
-use Rattle.table.specs.Table.{Table, kindOf, countOf, widthOf, sizeOf, fieldsOf, conditionsOf, unmatchingOf, fieldLow, fieldWidth, fieldBits, conditionEnd, hasCycles, opcodePlace, cyclesPlace, fieldsPlace, conditionsPlace, entryEnd, tableOf, ownBits}
+use Rattle.table.specs.Table.{Table, kindOf, countOf, widthOf, sizeOf, fieldsOf, conditionsOf, unmatchingOf, fieldLow, fieldWidth, fieldBits, formOf, fractionOf, conditionEnd, hasCycles, opcodePlace, cyclesPlace, fieldsPlace, conditionsPlace, entryEnd, tableOf, ownBits}
 
 -- nothing faulty, or the first fault: its number and its place
 pub data Check : Type 0 where
@@ -66,6 +66,14 @@ unfoldable pub conditionsCheck : List ℕ → ℕ → ℕ → ℕ → Check
 conditionsCheck ws own zero p = fine
 conditionsCheck ws own (suc n) p = conditionCheck ws own p then conditionsCheck ws own n (conditionEnd ws p)
 
+-- "bits 23–16 stay spare for all other forms" than 2
+unfoldable pub spareClear : ℕ → Bool
+spareClear w = eqb (formOf w) 2 or eqb (fractionOf w) 0
+
+-- "A form over 2, or fraction bits over 16 or over the field's width, gives 4"
+unfoldable pub formFits : ℕ → Bool
+formFits w = leb (formOf w) 2 and leb (fractionOf w) 16 and leb (fractionOf w) (fieldWidth w)
+
 -- "field of width 0, outside own bits, or overlapping mask or earlier field": 4 with the "index of the field";
 -- `used` has the bits of the opcode mask and of the earlier fields
 unfoldable pub fieldRule : ℕ → ℕ → ℕ → ℕ → ℕ → Check
@@ -75,12 +83,18 @@ fieldRule width size used w p =
     then need (leb (fieldLow w + fieldWidth w) width) 4 p
     then need (eqb (bitAnd used (fieldBits w)) 0) 4 p
 
--- a field; "of two at one word the lower": its kind and spare bits, number 2, come before its bits, number 4
+-- a field's word by itself; "of two at one word the lower": its kind and spare bits, number 2, come before its form, number 4
+unfoldable pub fieldWord : ℕ → ℕ → Check
+fieldWord w p =
+    need (eqb (kindOf w) 3) 2 p
+    then need (spareClear w) 2 p
+    then need (formFits w) 4 p
+
+-- a field
 unfoldable pub fieldCheck : List ℕ → ℕ → ℕ → ℕ → ℕ → Check
 fieldCheck ws width size used p =
     has ws p 1
-    then need (eqb (kindOf (word ws p)) 3) 2 p
-    then need (eqb (bits 27 16 (word ws p)) 0) 2 p
+    then fieldWord (word ws p) p
     then fieldRule width size used (word ws p) p
 
 -- the n fields from p on of the entry at e; "own bits not covered", 4 with the index "of the entry", "is checked after the last field"
@@ -89,6 +103,11 @@ fieldsCheck ws e width size used zero p = need (eqb used (ownBits width size)) 4
 fieldsCheck ws e width size used (suc n) p =
     fieldCheck ws width size used p
     then fieldsCheck ws e width size (bitOr used (fieldBits (word ws p))) n (p + 1)
+
+-- the bits used before field j of those from p on
+unfoldable pub usedBefore : List ℕ → ℕ → ℕ → ℕ → ℕ
+usedBefore ws used zero p = used
+usedBefore ws used (suc j) p = usedBefore ws (bitOr used (fieldBits (word ws p))) j (p + 1)
 
 -- the head word of an entry: length "1 to width", fields and conditions "(0–8)"
 unfoldable pub headCheck : List ℕ → ℕ → ℕ → Check

@@ -11,10 +11,12 @@ pub record Pattern : Type 0 where
   pub mask : ℕ
   pub value : ℕ
 
--- "its lowest bit", "its width in bits"
+-- "its lowest bit", "its width in bits"; "the form", "the fraction bits" (document 02, No. 7)
 pub record Field : Type 0 where
   pub low : ℕ
   pub width : ℕ
+  pub form : ℕ
+  pub fraction : ℕ
 
 -- "its matching pattern", "unmatching patterns"
 pub record Condition : Type 0 where
@@ -70,6 +72,13 @@ fieldWidth w = bits 7 0 w
 unfoldable pub fieldBits : ℕ → ℕ
 fieldBits w = run (fieldLow w) (fieldWidth w)
 
+-- "Field words use bits 27–24 for the form: 0 plain, 1 two's complement, 2 fixed point, and for form 2 bits 23–16 for the fraction bits"
+abbrev pub formOf : ℕ → ℕ
+formOf w = bits 27 24 w
+
+abbrev pub fractionOf : ℕ → ℕ
+fractionOf w = bits 23 16 w
+
 -- "Kind 4, exclusion condition: bits 3–0 number of unmatching patterns"
 abbrev pub unmatchingOf : ℕ → ℕ
 unmatchingOf w = bits 3 0 w
@@ -81,7 +90,7 @@ abbrev pub patternAt : List ℕ → ℕ → Pattern
 patternAt ws p = record { mask = word ws p; value = word ws (p + 1) }
 
 abbrev pub fieldAt : List ℕ → ℕ → Field
-fieldAt ws p = record { low = fieldLow (word ws p); width = fieldWidth (word ws p) }
+fieldAt ws p = record { low = fieldLow (word ws p); width = fieldWidth (word ws p); form = formOf (word ws p); fraction = fractionOf (word ws p) }
 
 -- the n fields from p on
 unfoldable pub fieldsAt : List ℕ → ℕ → ℕ → List Field

@@ -5,8 +5,8 @@ ghost use Prim.Native.Nat.{ℕ, _+_, _*_, _≤_, _<_, _^_};
 ghost use lib.ListN.{length, getD};
 ghost use Rattle.words.specs.Outcome.{causeOf};
 ghost use Rattle.table.specs.Table.{fieldLow, fieldWidth, fieldBits, ownBits, conditionEnd, conditionsEnd, hasCycles, cyclesAt, fieldsPlace, conditionsPlace, entryEnd};
-ghost use Rattle.table.specs.Check.{fine, patternCheck, unmatchingCheck, unmatchingsCheck, conditionCheck, conditionsCheck, fieldRule, fieldCheck, fieldsCheck, headCheck, cyclesCheck, entryCheck, entriesCheck, firstCheck, readTable};
-ghost use Rattle.table.specs.Answer.{step, said, AllPlaced, Refusal, Reads};
+ghost use Rattle.table.specs.Check.{fine, patternCheck, unmatchingCheck, unmatchingsCheck, conditionCheck, conditionsCheck, spareClear, formFits, fieldWord, fieldRule, fieldCheck, fieldsCheck, headCheck, cyclesCheck, entryCheck, entriesCheck, firstCheck, readTable};
+ghost use Rattle.table.specs.Answer.{step, faultNumber, said, AllPlaced, Refusal, Reads};
 
 // On to the next place, or the first fault: its number and its place.
 enum Step {
@@ -125,10 +125,61 @@ fn own_bits(width: u32, size: u32) -> u32
 
 // The bits of a field's word.
 fn field_bits(w: u32) -> u32
-    requires { ⌜ fieldLow w + fieldWidth w ≤ 32 ⌝ }
+    requires { ⌜ (0 < fieldWidth w) × (fieldLow w + fieldWidth w ≤ 32) ⌝ }
     ensures { λ r. ⌜ r ≡ fieldBits w ⌝ }
 {
-    words::run(words::part(w, 8, 8), words::part(w, 0, 8))
+    let low = words::part(w, 8, 8);
+    let count = words::part(w, 0, 8);
+    (0xffff_ffff >> (32 - count)) << low
+}
+
+// Whether a field's word has no spare bit set: bits 23-16 are spare for every form but 2.
+fn spare_clear(w: u32) -> bool
+    ensures { λ r. ⌜ r ≡ spareClear w ⌝ }
+{
+    if words::part(w, 24, 4) == 2 {
+        return true;
+    }
+    words::part(w, 16, 8) == 0
+}
+
+// Whether a field's word has a form, and no more fraction bits than 16 and than its width.
+fn form_fits(w: u32) -> bool
+    ensures { λ r. ⌜ r ≡ formFits w ⌝ }
+{
+    let fraction = words::part(w, 16, 8);
+    let width = words::part(w, 0, 8);
+    if 2 < words::part(w, 24, 4) {
+        return false;
+    }
+    if 16 < fraction {
+        return false;
+    }
+    fraction <= width
+}
+
+// Bits 31-16 of a plain field's word: kind 3, and no other bit.
+const PLAIN: u32 = 0x3000;
+
+// The number of a fault of a field's word by itself, 0 if it has none. Most fields are plain, and plain words have none.
+pub fn field_fault(w: u32) -> u32
+    ensures { λ r. ⌜ r ≡ faultNumber (fieldWord w 0) ⌝ }
+{
+    if words::part(w, 16, 16) == PLAIN {
+        return 0;
+    }
+    let kind = words::part(w, 28, 4);
+    match kind {
+        3 => {}
+        0..=2 | 4.. => return 2,
+    }
+    if !spare_clear(w) {
+        return 2;
+    }
+    if !form_fits(w) {
+        return 4;
+    }
+    0
 }
 
 // The bits of the field at p: some, in the own bits, and none of them used.
@@ -163,13 +214,9 @@ fn field(ws: &[u32], width: u32, size: u32, used: u32, p: usize) -> Step
         return Step::Fault(2, ws.len());
     }
     let w = ws[p];
-    let kind = words::part(w, 28, 4);
-    match kind {
-        3 => {}
-        0..=2 | 4.. => return Step::Fault(2, p),
-    }
-    if words::part(w, 16, 12) != 0 {
-        return Step::Fault(2, p);
+    let fault = field_fault(w);
+    if fault != 0 {
+        return Step::Fault(fault, p);
     }
     field_rule(width, size, used, w, p)
 }

@@ -1,8 +1,8 @@
 -- Parts and runs of bits of a machine word, by shift and mask. Assumes nothing.
-use mathlib.Core.Path.{_≡_, refl, sym, ap, _∙_}
+use mathlib.Core.Path.{_≡_, sym, ap, _∙_}
 use mathlib.Core.Bool.{true}
-use Prim.Native.Nat.{ℕ, zero, _+_, _-_, _*_, _/_, _%_, _^_, _≤_, _<_}
-use native.Mathlib.Nat.{one-mul, add-mul, mul-assoc, mul-right-comm, mod-lt, mod-eq-of-lt, div-eq-of-lt, zero-mod, pow-zero, div-one, mul-mod-left, mul-add-mod-self-right, le-trans}
+use Prim.Native.Nat.{ℕ, _+_, _-_, _*_, _/_, _%_, _^_, _≤_, _<_}
+use native.Mathlib.Nat.{one-mul, add-mul, mul-assoc, mul-right-comm, mod-lt, mod-eq-of-lt, div-eq-of-lt, zero-mod, pow-zero, div-one, mul-mod-left, mul-add-mod-self-right, mul-add-div-right, add-zero, le-trans}
 use native.Mathlib.Omega.{arith}
 use lib.Bits.{bitAnd, and-mask}
 use lib.Dec.{lit<, eqb, ltb}
@@ -95,6 +95,19 @@ run-lt k low width h =
 -- a run of bits below bit 32 is whole
 pub run-whole : (low width : ℕ) → low + width ≤ 32 → run low width % 2 ^ 32 ≡ run low width
 run-whole low width h = mod-eq-of-lt (run-lt 32 low width h)
+
+-- a run by two shifts, without a test of the width: `(0xffff_ffff >> (32 - width)) << low`
+ones-shr : (width rest : ℕ) → 32 ≡ width + rest → (2 ^ 32 - 1) / 2 ^ rest ≡ 2 ^ width - 1
+ones-shr width rest e =
+    ap (λ (x : ℕ). (2 ^ x - 1) / 2 ^ rest) e
+    ∙ ap (λ (x : ℕ). x / 2 ^ rest) (ones-split width rest)
+    ∙ mul-add-div-right (pow-pos rest) (2 ^ width - 1) (2 ^ rest - 1)
+    ∙ ap (λ (x : ℕ). 2 ^ width - 1 + x) (div-eq-of-lt (ones-lt rest))
+    ∙ add-zero (2 ^ width - 1)
+
+pub run-shifts : (low width : ℕ) → low + width ≤ 32 → ((2 ^ 32 - 1) / 2 ^ (32 - width) * 2 ^ low) % 2 ^ 32 ≡ run low width
+unfolding run
+run-shifts low width h = ap (λ (x : ℕ). (x * 2 ^ low) % 2 ^ 32) (ones-shr width (32 - width) (omega arith)) ∙ run-whole low width h
 
 -- ---- words of a width
 

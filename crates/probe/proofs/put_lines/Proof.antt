@@ -7,10 +7,11 @@ use Rattle.probe.proofs.put_lines.Statement.{statement}
 use Rattle.probe.proofs.put_lines.Tie as tie
 
 abbrev Inv-loop : tie.InvT-loop
-Inv-loop page₀ bytes ws room₀ end at₀ index₀ page room at index = (length page ≡ length page₀) × (length room ≡ length room₀) × (end < 262145)
+Inv-loop page₀ bytes ws room₀ byte-room₀ end at₀ index₀ page room byte-room at index =
+    (length page ≡ length page₀) × (length room ≡ length room₀) × (length byte-room ≡ length byte-room₀) × (end < 262145)
 
 abbrev μ-loop : tie.MeasureT-loop
-μ-loop page₀ bytes ws room₀ end at₀ index₀ page room at index = end - index
+μ-loop page₀ bytes ws room₀ byte-room₀ end at₀ index₀ page room byte-room at index = end - index
 
 put-stopped-requires : tie.Need-put-stopped-requires Inv-loop μ-loop
 put-stopped-requires c κs = search needs
@@ -42,6 +43,9 @@ same-length-2 c = search needs
 same-length-3 : tie.Need-same-length-3 Inv-loop μ-loop
 same-length-3 c = search needs
 
+same-length-4 : tie.Need-same-length-4 Inv-loop μ-loop
+same-length-4 c = search needs
+
 returns-2 : tie.Need-returns-2 Inv-loop μ-loop
 returns-2 c = search needs
 
@@ -54,11 +58,14 @@ loop-less c = search needs
 loop-again : tie.Need-loop-again Inv-loop μ-loop
 loop-again c = search needs
 
-same-length-4 : tie.Need-same-length-4 Inv-loop μ-loop
-same-length-4 c = search needs
-
 same-length-5 : tie.Need-same-length-5 Inv-loop μ-loop
 same-length-5 c = search needs
+
+same-length-6 : tie.Need-same-length-6 Inv-loop μ-loop
+same-length-6 c = search needs
+
+same-length-7 : tie.Need-same-length-7 Inv-loop μ-loop
+same-length-7 c = search needs
 
 returns-3 : tie.Need-returns-3 Inv-loop μ-loop
 returns-3 c = search needs
@@ -79,10 +86,12 @@ put-lines-spec =
     put-stopped-requires-2
     same-length-2
     same-length-3
+    same-length-4
     returns-2
     put-line-requires
     loop-less
     loop-again
-    same-length-4
     same-length-5
+    same-length-6
+    same-length-7
     returns-3)

@@ -1,6 +1,9 @@
-use Rattle.table.proofs.Laws.{checks}
-use Rattle.table.specs.Check.{fieldCheck}
-use borrow.Author.Tests.{lt-leb, le-leb, eq-eqb, ne-eqb}
+use Rattle.table.proofs.Laws.{checks, word-stops, word-passes}
+use Rattle.words.specs.Words.{word}
+use Rattle.table.specs.Check.{fine, fault, fieldWord, fieldCheck}
+use Prim.Native.Nat.{ℕ}
+use mathlib.Core.Path.{_≡_, sym, ap, _∙_}
+use borrow.Author.Tests.{lt-leb, le-leb}
 use borrow.Author.Needs.{needs}
 use Rattle.table.proofs.field.Statement.{statement}
 use Rattle.table.proofs.field.Tie as tie
@@ -18,26 +21,27 @@ mul-w c = search needs
 shared-slice-read-w : tie.Need-shared-slice-read-w
 shared-slice-read-w c = search needs
 
-part-requires : tie.Need-part-requires
-part-requires c κs = search needs
+field-fault-requires : tie.Need-field-fault-requires
+field-fault-requires c κs = search needs
 
 returns-2 : tie.Need-returns-2
 unfolding fieldCheck
-returns-2 c = simp (le-leb _ _ (c .before .before .before .if1 .left), ← c .before .part .ensures, ne-eqb _ _ (c .match .rest .1), checks)
-
-part-requires-2 : tie.Need-part-requires-2
-part-requires-2 c κs = search needs
-
-returns-3 : tie.Need-returns-3
-unfolding fieldCheck
-returns-3 c = simp (le-leb _ _ (c .before .before .before .before .before .if1 .left), ← c .before .before .before .part .ensures, eq-eqb _ _ (c .before .before .match .keys1), ← c .before .part2 .ensures, ne-eqb _ _ (c .if2 .taken), checks)
+returns-2 c =
+    let f = c .before .field-fault in
+    let a = c .before .before .before .before .before .args in
+    let e : fieldWord (word (a .ws .now) (a .p)) (a .p) ≡ fault (f .result) (a .p) =
+    word-stops _ _ (λ z. c .if2 .taken (f .ensures ∙ z)) ∙ ap (λ (n : ℕ). fault n (a .p)) (sym (f .ensures)) in
+    simp (le-leb _ _ (c .before .before .before .if1 .left), e, checks)
 
 field-rule-requires : tie.Need-field-rule-requires
 field-rule-requires c κs = search needs
 
-returns-4 : tie.Need-returns-4
+returns-3 : tie.Need-returns-3
 unfolding fieldCheck
-returns-4 c = simp (le-leb _ _ (c .before .before .before .before .before .before .if1 .left), ← c .before .before .before .before .part .ensures, eq-eqb _ _ (c .before .before .before .match .keys1), ← c .before .before .part2 .ensures, eq-eqb _ _ (c .before .if2 .left), checks) (c .field-rule .ensures)
+returns-3 c =
+    let a = c .before .before .before .before .before .before .args in
+    let e : fieldWord (word (a .ws .now) (a .p)) (a .p) ≡ fine = word-passes _ _ 0 (sym (c .before .before .field-fault .ensures) ∙ c .before .if2 .left) in
+    simp (le-leb _ _ (c .before .before .before .before .if1 .left), e, checks) (c .field-rule .ensures)
 
 pub field-spec : {M : Type 1} → statement M
 field-spec =
@@ -47,9 +51,7 @@ field-spec =
     returns
     mul-w
     shared-slice-read-w
-    part-requires
+    field-fault-requires
     returns-2
-    part-requires-2
-    returns-3
     field-rule-requires
-    returns-4)
+    returns-3)

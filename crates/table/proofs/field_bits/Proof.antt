@@ -1,7 +1,6 @@
-use Rattle.words.specs.Words.{run}
-use Rattle.words.proofs.Parts.{run-whole}
+use Rattle.words.proofs.Parts.{run-shifts}
 use Rattle.table.specs.Table.{fieldBits}
-use Prim.Native.Nat.{ℕ, _%_, _^_}
+use Prim.Native.Nat.{ℕ, _-_, _*_, _/_, _%_, _^_}
 use mathlib.Core.Path.{_∙_, ap₂}
 use borrow.Author.Needs.{needs}
 use Rattle.table.proofs.field_bits.Statement.{statement}
@@ -13,15 +12,21 @@ part-requires c κs = search needs
 part-requires-2 : tie.Need-part-requires-2
 part-requires-2 c κs = search needs
 
-run-requires : tie.Need-run-requires
-run-requires c κs = search needs
+sub-result : tie.Need-sub-result
+sub-result c = search needs
+
+shr-result : tie.Need-shr-result
+shr-result c = search needs
+
+shl-result : tie.Need-shl-result
+shl-result c = search needs
 
 returns : tie.Need-returns
 unfolding fieldBits
 returns c =
-    c .run .ensures
-    ∙ ap₂ (λ (l k : ℕ). run l k % 2 ^ 32) (c .before .before .part .ensures) (c .before .part2 .ensures)
-    ∙ run-whole _ _ (c .before .before .before .pre)
+    ap₂ (λ (l k : ℕ). ((2 ^ 32 - 1) / 2 ^ (32 - k) * 2 ^ l) % 2 ^ 32) (c .before .part .ensures) (c .part2 .ensures)
+    ∙ run-shifts _ _ (c .before .before .pre .1)
 
 pub field-bits-spec : {M : Type 1} → statement M
-field-bits-spec = tie.close (tie.spec part-requires part-requires-2 run-requires returns)
+field-bits-spec =
+    tie.close (tie.spec part-requires part-requires-2 sub-result shr-result shl-result returns)

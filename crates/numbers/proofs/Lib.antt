@@ -1,0 +1,13 @@
+pub mod Cases
+pub mod Sides
+pub mod Ranges
+pub mod Judging
+pub mod Answering
+pub mod Dividing
+pub mod Writing
+pub mod Turning
+pub mod Exactness
+pub mod Only
+pub mod Refusing
+pub mod Numbers
+pub mod Examples
