@@ -9,7 +9,8 @@ use Rattle.table.specs.Check.{Check, _then_, need, fieldWord}
 abbrev pub hasSign : ℕ → Bool
 hasSign w = not (eqb (formOf w) 0)
 
--- "a wrong kind or spare bit gives 2, then a width outside 1–32 or a form fault as above 4", "all with place 0, the lowest bit not judged"
+-- "a wrong kind or spare bit gives 2, then a width outside 1–32 or a form fault as above 4", "all with place 0, the lowest bit not judged";
+-- width and form have one number and place, so that their order is not seen
 unfoldable pub wordCheck : ℕ → Check
 wordCheck w =
     fieldWord w 0
