@@ -5,7 +5,7 @@
 --     two-exactly, four-exactly, twelve-exactly     what the calls refuse
 --     signed-all, stored-all, signed-small, turned, stored-fits     stored values and whole numbers
 --     text-says, minus-exactly, point-of-two, room-exactly, written, unwritten     the text and its buffer
---     decode-plain, place-plain, misfit-plain     encoding and decoding
+--     decoded-signed, decode-plain, place-plain, misfit-plain     encoding and decoding
 use Prim.Native.Nat.{ℕ, _+_, _^_, _≤_, _<_}
 use mathlib.Core.Bool.{true, false, cond}
 use mathlib.Core.Path.{_≡_, refl, ap, _∙_}
@@ -21,7 +21,8 @@ use borrow.Author.Tests.{lt-ltb, le-ltb, ltb-true, ltb-false, le-leb, lt-leb, le
 use Rattle.words.specs.Words.{word}
 use Rattle.words.specs.Outcome.{Outcome, result, faulty, refused}
 use Rattle.words.proofs.Logic.{cases, or-e}
-use Rattle.table.specs.Table.{Field, Table, kindOf, countOf, widthOf, sizeOf, fieldsOf, fieldWidth, formOf, fractionOf, opcodePlace, fieldsPlace, entryPlace, ownBits}
+use Rattle.words.proofs.Parts.{part-lt}
+use Rattle.table.specs.Table.{Field, Table, fieldAt, kindOf, countOf, widthOf, sizeOf, fieldsOf, fieldWidth, formOf, fractionOf, opcodePlace, fieldsPlace, entryPlace, ownBits}
 use Rattle.table.specs.Check.{Check, fine, fault, spareClear, firstCheck, headCheck, patternCheck, cyclesCheck, fieldWord, fieldCheck, usedBefore, entryCheck, tableCheck, readTable}
 use Rattle.table.proofs.Laws.{checks, fine-then, fault-then, then-l, then-r, need-true, field-word, field-some, field-below, first-width}
 use Rattle.table.proofs.Views.{read-is, entry-check, entry-stops, entry-field-check, field-at, field-stops}
@@ -205,6 +206,11 @@ module _ (o : Outcome (List ℕ)) (out : List ℕ) where
       go (result text) f = cases (leb (length text) (length out)) (λ t. absurd (f (length text) (rw t))) (λ t. rw t)
 
 -- ---- "Encoding and decoding keep to stored values": what is taken out, what is placed and what is refused are as of plain fields
+
+-- what decoding takes out of any word for a field of a table that reads is a stored value: it has a number
+pub decoded-signed : (ws : List ℕ) (t : Table) → readTable ws ≡ result t → (k : ℕ) → k < countOf (word ws 0) → (j : ℕ) → j < fieldsOf (word ws (entryPlace ws k)) → (w : ℕ)
+    → let p = fieldsPlace ws (entryPlace ws k) + j in let v = valueIn (fieldAt ws p) w in signedOf (word ws p) v ≡ result (numberOf (hasSign (word ws p)) (fieldWidth (word ws p)) v)
+decoded-signed ws t r k h j l w = signed-all _ (in-table ws t r k h j l) _ (part-lt w _ _)
 
 pub decode-plain : (fs : List Field) (w : ℕ) → valuesIn (map plain fs) w ≡ valuesIn fs w
 unfolding valuesIn plain

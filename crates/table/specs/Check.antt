@@ -66,7 +66,7 @@ unfoldable pub conditionsCheck : List ℕ → ℕ → ℕ → ℕ → Check
 conditionsCheck ws own zero p = fine
 conditionsCheck ws own (suc n) p = conditionCheck ws own p then conditionsCheck ws own n (conditionEnd ws p)
 
--- "bits 23–16 stay spare for all other forms" than 2
+-- "bits 23–16 stay spare for all other forms" than 2 (document 02, No. 7)
 unfoldable pub spareClear : ℕ → Bool
 spareClear w = eqb (formOf w) 2 or eqb (fractionOf w) 0
 
