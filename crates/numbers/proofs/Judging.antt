@@ -1,13 +1,13 @@
 -- A field's word that was judged. Assumes nothing.
 use Prim.Native.Nat.{ℕ, _≤_}
-use mathlib.Core.Bool.{Bool}
+use mathlib.Core.Bool.{Bool, true}
 use mathlib.Core.Path.{_≡_, refl, ap}
 use native.Mathlib.Omega.{arith}
 use lib.Dec.{leb}
 use borrow.Author.Tests.{leb-true}
 use Rattle.words.specs.Outcome.{faulty}
 use Rattle.words.proofs.Logic.{and-l, and-r}
-use Rattle.table.specs.Table.{fieldWidth, fractionOf}
+use Rattle.table.specs.Table.{fieldWidth, formOf, fractionOf}
 use Rattle.table.specs.Check.{Check, fine, fault, _then_, need, fieldWord, formFits}
 use Rattle.table.proofs.Laws.{then-l, then-r, need-true}
 use Rattle.numbers.specs.declared.Judged.the-variants.{Fault, Values}
@@ -53,9 +53,17 @@ module _ (w : ℕ) (good : wordCheck w ≡ fine) where
   pub width-most : fieldWidth w ≤ 32
   width-most = leb-true _ _ (need-true _ _ _ (then-r _ _ wide))
 
+  form-good : formFits w ≡ true
+  unfolding wordCheck fieldWord
+  form-good = need-true _ _ _ (then-r _ _ (then-r _ _ (then-l _ _ good)))
+
+  pub form-most : formOf w ≤ 2
+  unfolding formFits
+  form-most = leb-true _ _ (and-l _ (and-l _ form-good))
+
   pub fraction-few : fractionOf w ≤ 16
-  unfolding wordCheck fieldWord formFits
-  fraction-few = leb-true _ _ (and-r _ (and-l _ (need-true _ _ _ (then-r _ _ (then-r _ _ (then-l _ _ good))))))
+  unfolding formFits
+  fraction-few = leb-true _ _ (and-r _ (and-l _ form-good))
 
 sound-of : (w : ℕ) (sign : Bool) (fraction width : ℕ) (c : Check) → wordCheck w ≡ c → Values sign fraction width ≡ judgedAs c w → Sound w sign fraction width
 unfolding judgedAs

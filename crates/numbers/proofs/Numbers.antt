@@ -3,24 +3,24 @@
 --   `lengthOf (textOf w v) (length out)` and leaves `bufferAfter (textOf w v) out`: for all words, stored values v, whole numbers z and buffers.
 --     spare-is-two, form-is-four, in-table     field words of a table
 --     two-exactly, four-exactly, twelve-exactly     what the calls refuse
---     signed-all, stored-all, signed-small, turned, stored-fits     stored values and whole numbers
+--     signed-forms, signed-all, stored-all, signed-small, turned, stored-fits     stored values and whole numbers
 --     text-says, minus-exactly, point-of-two, room-exactly, written, unwritten     the text and its buffer
 --     decoded-signed, decode-plain, place-plain, misfit-plain     encoding and decoding
 use Prim.Native.Nat.{ℕ, _+_, _^_, _≤_, _<_}
 use mathlib.Core.Bool.{true, false, cond}
 use mathlib.Core.Path.{_≡_, refl, ap, _∙_}
 use mathlib.Core.List.{List, [], _∷_, _++_, map}
-use mathlib.Core.Logic.{_↔_}
+use mathlib.Core.Logic.{_↔_, _⊎_, ⊎-elim, inl, inr}
 use mathlib.Core.Option.{Option, some}
 use native.Mathlib.Omega.{arith}
 use lib.Dec.{eqb, ltb, leb}
 use lib.IntN.{ℤ, pos}
 use lib.Signed.{ltZ, mag}
 use lib.ListN.{length, getD, drop}
-use borrow.Author.Tests.{lt-ltb, le-ltb, ltb-true, ltb-false, le-leb, lt-leb, leb-false, eqb-true, eq-eqb, ne-eqb}
+use borrow.Author.Tests.{lt-ltb, le-ltb, ltb-true, ltb-false, le-leb, lt-leb, leb-false, eqb-true, eqb-false, eq-eqb, ne-eqb}
 use Rattle.words.specs.Words.{word}
 use Rattle.words.specs.Outcome.{Outcome, result, faulty, refused}
-use Rattle.words.proofs.Logic.{cases, or-e}
+use Rattle.words.proofs.Logic.{cases, or-e, not-t}
 use Rattle.words.proofs.Parts.{part-lt}
 use Rattle.table.specs.Table.{Field, Table, fieldAt, kindOf, countOf, widthOf, sizeOf, fieldsOf, fieldWidth, formOf, fractionOf, opcodePlace, fieldsPlace, entryPlace, ownBits}
 use Rattle.table.specs.Check.{Check, fine, fault, spareClear, firstCheck, headCheck, patternCheck, cyclesCheck, fieldWord, fieldCheck, usedBefore, entryCheck, tableCheck, readTable}
@@ -32,7 +32,7 @@ use Rattle.numbers.specs.Whole.{numberOf, inRange, valueOf}
 use Rattle.numbers.specs.Calls.{answerOf, signedOf, storedOf, textOf, lengthOf, bufferAfter}
 use Rattle.numbers.specs.Exact.{Exact}
 use Rattle.numbers.specs.Plain.{plain}
-use Rattle.numbers.proofs.Judging.{width-some, width-most}
+use Rattle.numbers.proofs.Judging.{width-some, width-most, form-most}
 use Rattle.numbers.proofs.Answering.{answer-result}
 use Rattle.numbers.proofs.Refusing.{SpareSet, FormFault, Two, Four, spare-set, form-fault, two, four, twelve}
 use Rattle.numbers.proofs.Ranges.{number-small}
@@ -121,6 +121,14 @@ module _ (w v : ℕ) (z : ℤ) where
           (λ d. (e .0 d .0, ltb-false _ _ (e .0 d .1)), λ d. e .1 (d .0, le-ltb _ _ (d .1)))
 
 -- ---- stored values and whole numbers, for every width from 1 to 32 by one argument
+
+-- "1 two's complement", "Form 2 is two's complement too"
+pub signed-forms : (w : ℕ) → wordCheck w ≡ fine → (hasSign w ≡ true) ↔ ((formOf w ≡ 1) ⊎ (formOf w ≡ 2))
+signed-forms w good = (
+  λ s. let some = eqb-false (formOf w) 0 (not-t s) in
+      cases (eqb (formOf w) 1) (λ t. inl (eqb-true _ _ t)) (λ t. let other = eqb-false (formOf w) 1 t in inr (omega (arith, some, other, form-most w good))),
+  ⊎-elim (λ e. rw e) (λ e. rw e),
+)
 
 module _ (w : ℕ) where
   -- each value of the width has a number

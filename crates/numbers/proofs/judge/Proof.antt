@@ -1,8 +1,12 @@
 use Prim.Native.Nat.{ℕ}
+use mathlib.Core.Bool.{not}
+use lib.Dec.{eqb}
 use mathlib.Core.Path.{_≡_, sym, ap, _∙_}
 use Rattle.table.specs.Check.{fine, fault, fieldWord}
 use Rattle.table.proofs.Laws.{checks, word-stops, word-passes}
+use Rattle.numbers.specs.declared.Judged.the-variants.{Values}
 use Rattle.numbers.specs.Word.{wordCheck}
+use Rattle.numbers.specs.Answers.{judgedAs}
 use Rattle.numbers.proofs.Judging.{judged}
 use borrow.Author.Tests.{lt-leb, le-leb}
 use borrow.Author.Needs.{needs}
@@ -43,7 +47,11 @@ part-requires-3 c κs = search needs
 
 returns-4 : tie.Need-returns-4
 unfolding wordCheck
-returns-4 c = simp (clear (c .before .before .before .before .before), ← c .before .before .before .before .part .ensures, le-leb _ _ (c .before .before .before .if2 .left), le-leb _ _ (c .before .before .if3 .left), ← c .before .part2 .ensures, ← c .part3 .ensures, checks, judged)
+returns-4 c =
+    let w = c .before .before .before .before .before .before .before .args .field in
+    let values : Values (not (eqb (c .before .part2 .result) 0)) (c .part3 .result) (c .before .before .before .before .part .result) ≡ judgedAs (wordCheck w) w =
+    simp (clear (c .before .before .before .before .before), ← c .before .before .before .before .part .ensures, le-leb _ _ (c .before .before .before .if2 .left), le-leb _ _ (c .before .before .if3 .left), ← c .before .part2 .ensures, ← c .part3 .ensures, checks, judged) in
+    values
 
 pub judge-spec : {M : Type 1} → statement M
 judge-spec =
