@@ -4,6 +4,7 @@
 --     sound-from, complete     the rule says yes exactly where such a tree stands
 --     accepted-right     an accepted tree walks every word of the width to what it selects
 --     generated-accepted     every tree that generating writes is accepted, whatever words follow it
+--     unreached-accepted     and the tree of a table that is refused with 19
 use Prim.Native.Nat.{ℕ, zero, suc, _+_, _^_, _≤_, _<_, zero-le, suc-le-suc}
 use native.Mathlib.Nat.{le-refl, le-trans, le-of-eq}
 use native.Mathlib.Omega.{arith}
@@ -22,10 +23,10 @@ use Rattle.words.proofs.Logic.{cases, and-i, and-l, and-r, not-t, howMany-le}
 use Rattle.table.specs.Lawful.{goodTable}
 use Rattle.table.specs.Table.{Entry, Table}
 use Rattle.table.specs.Check.{readTable}
-use Rattle.words.specs.Outcome.{result}
-use Rattle.choice.specs.Rule.{Choice, names, nothing, ambiguous, judge}
+use Rattle.words.specs.Outcome.{result, refused}
+use Rattle.choice.specs.Rule.{Choice, names, nothing, ambiguous, selects, judge}
 use Rattle.selection.specs.Selection.{claims, select}
-use Rattle.choice.proofs.Judging.{answers, judge-names, judge-nothing}
+use Rattle.choice.proofs.Judging.{answers, selects-names, names-selects, judge-names, judge-nothing}
 use Rattle.flat.specs.Nodes.{headerOf, nodeOf}
 use Rattle.flat.specs.declared.Header.the-variants.{Good}
 use Rattle.flat.specs.declared.Node.{Node}
@@ -36,14 +37,14 @@ use Rattle.tree.specs.Tree.{Tree, leaf, test, below, tree, size, answer, asked,
 use Rattle.tree.specs.Written.{testWord, leafWord, headerWord, nodes, written}
 use Rattle.flat.proofs.Reading.{header-cases, node-cases, Says, node-says}
 use Rattle.flat.specs.Walk.{arrives, after, path, enters, walkOf}
-use Rattle.checker.specs.Checker.{settled, isStepOne, isStepTwo, provided, meeting, checkFrom, checkBelow, endsAt, acceptsBy, accepts, checkOf}
+use Rattle.checker.specs.Checker.{settled, isStepTwo, provided, meeting, checkFrom, checkBelow, endsAt, acceptsBy, accepts, checkOf}
 use Rattle.tree.specs.Generate.{fits, generateOf, bufferOf}
 use Rattle.checker.specs.declared.Ended.{Ended}
 use Rattle.checker.specs.declared.Ended.the-variants.{No, At}
 use Rattle.cell.proofs.Cells.{In, step-end, sure-claims, claims-live, in-zero, in-one, free-less}
 use Rattle.tree.proofs.Theorem.{Fresh, fresh-none, fresh-more, induct}
 use Rattle.tree.proofs.Sizes.{length-nodes, size-pos}
-use Rattle.tree.proofs.Demand.{Right, right-walks, read-sane, judgement, buffer-is, words-are}
+use Rattle.tree.proofs.Demand.{Right, right-walks, read-sane, judgement, nineteen-judged, buffer-is, words-are}
 use Rattle.tree.proofs.Paths.{Sound, sound-tree, node-test, node-names, node-nothing, header-good}
 
 -- ---- a tree that is right in a cell
@@ -125,12 +126,6 @@ meeting-at : (o : Ended) (k : ℕ) (r : Ended) (e : ℕ) → meeting o k r ≡ A
 meeting-at No k r e h = (cc, cc)
 meeting-at (At m) k r e h = let s = provided-at (eqb m k) r e h in (ap At (eqb-true m k (s .0)), s .1)
 
-step-one : (a : Choice) (e : ℕ) → isStepOne a e ≡ true → names e ≡ a
-unfolding isStepOne
-step-one (names i) e h = ap names (sym (eqb-true i e h))
-step-one nothing e h = absurd (false≢true h)
-step-one ambiguous e h = absurd (false≢true h)
-
 step-two : (a : Choice) → isStepTwo a ≡ true → nothing ≡ a
 unfolding isStepTwo
 step-two (names i) h = absurd (false≢true h)
@@ -158,14 +153,14 @@ module _ (es : List Entry) (ws : List ℕ) (width n : ℕ) where
     pub stands : Stands ws width n i held
     pub ends : i + size held ≡ e
 
-  held-names : (c : Cell) (i e x : ℕ) → nodeOf width n i (word ws i) ≡ Names x → provided (isStepOne (settled es c) x) (At (i + 1)) ≡ At e → Held c i e
+  held-names : (c : Cell) (i e x : ℕ) → nodeOf width n i (word ws i) ≡ Names x → provided (selects (settled es c) x) (At (i + 1)) ≡ At e → Held c i e
   unfolding Agrees Sound Stands size Says
   held-names c i e x d h =
-      let s = provided-at (isStepOne (settled es c) x) (At (i + 1)) e h in
+      let s = provided-at (selects (settled es c) x) (At (i + 1)) e h in
       let w : Says width (Names x) = rw d at (node-says width n i (word ws i)) in
       record {
         held = leaf (names x);
-        right = (step-one (settled es c) x (s .0), not-conflict x);
+        right = (sym (selects-names (settled es c) x (s .0)), not-conflict x);
         sound = λ y q. let z : x ≡ y = cc in rw (← z) w;
         stands = d;
         ends = same-index (i + 1) e (s .1);
@@ -216,10 +211,6 @@ module _ (es : List Entry) (ws : List ℕ) (width n : ℕ) where
       (λ d. held-nothing c i e d (rw d at h))
 
   -- ---- where such a tree stands: yes
-  one-step : (c : Cell) (x : ℕ) → names x ≡ settled es c → isStepOne (settled es c) x ≡ true
-  unfolding isStepOne
-  one-step c x q = rw (← q) (eq-eqb x x refl)
-
   two-step : (c : Cell) → nothing ≡ settled es c → isStepTwo (settled es c) ≡ true
   unfolding isStepTwo
   two-step c q = rw (← q)
@@ -227,8 +218,8 @@ module _ (es : List Entry) (ws : List ℕ) (width n : ℕ) where
   pub complete : (t : Tree) (fuel : ℕ) (c : Cell) (i : ℕ) → Agrees es c t → Sound width t → Stands ws width n i t → free width (c .fixed) ≤ fuel
       → checkFrom fuel es ws width n c i ≡ At (i + size t)
   unfolding Agrees Sound Stands size checkFrom
-  complete (leaf (names x)) zero c i g o s k = rw (s, one-step c x (g .0))
-  complete (leaf (names x)) (suc fuel) c i g o s k = rw (s, one-step c x (g .0))
+  complete (leaf (names x)) zero c i g o s k = rw (s, names-selects (settled es c) x (sym (g .0)))
+  complete (leaf (names x)) (suc fuel) c i g o s k = rw (s, names-selects (settled es c) x (sym (g .0)))
   complete (leaf nothing) zero c i g o s k = rw (s, two-step c (g .0))
   complete (leaf nothing) (suc fuel) c i g o s k = rw (s, two-step c (g .0))
   complete (leaf ambiguous) fuel c i g o s k = absurd s
@@ -360,19 +351,29 @@ tree-agrees es width good =
 
 -- ---- "every tree that generating writes is accepted": in the whole buffer, and in the n words that were answered
 
-module _ (ws out : List ℕ) (t : Table) (reads : readTable ws ≡ result t) (n : ℕ) (generated : generateOf (readTable ws) (length out) ≡ result n) where
+-- the tree of a table that fits within the limit and has no conflict
+module _ (ws : List ℕ) (t : Table) (reads : readTable ws ≡ result t) (room : ℕ) (fit : fits (tree (t .entries) (t .width)) room ≡ true)
+    (clean : conflict start (tree (t .entries) (t .width)) ≡ none) where
   own-accepted : (rest : List ℕ) → checkOf (readTable ws) (written (t .width) (tree (t .entries) (t .width)) ++ rest) ≡ result tt
   unfolding checkOf fits
   own-accepted rest =
       let s = read-sane ws t reads in
-      let j = judgement ws out t reads n generated in
       let yes : accepts (t .entries) (t .width) (written (t .width) (tree (t .entries) (t .width)) ++ rest) ≡ true
       = written-accepted (t .entries) (t .width) (s .wide) (s .narrow) (tree (t .entries) (t .width))
-      (tree-agrees (t .entries) (t .width) (s .good) (j .1))
+      (tree-agrees (t .entries) (t .width) (s .good) clean)
       (sound-tree (t .entries) (t .width) (s .good) (s .short))
-      (omega (arith, leb-true (size (tree (t .entries) (t .width)) + 1) 16384 (and-r _ (j .0))))
+      (omega (arith, leb-true (size (tree (t .entries) (t .width)) + 1) 16384 (and-r _ fit)))
       rest in
       rw (reads, yes)
 
+module _ (ws out : List ℕ) (t : Table) (reads : readTable ws ≡ result t) (n : ℕ) (generated : generateOf (readTable ws) (length out) ≡ result n) where
   pub generated-accepted : (checkOf (readTable ws) (bufferOf (readTable ws) out) ≡ result tt) × (checkOf (readTable ws) (take n (bufferOf (readTable ws) out)) ≡ result tt)
-  generated-accepted = (rw (buffer-is ws out t reads n generated) (own-accepted _), rw (words-are ws out t reads n generated) (own-accepted []))
+  generated-accepted =
+      let j = judgement ws out t reads n generated .0 in
+      let own = own-accepted ws t reads (length out) (j .fits) (j .clean) in
+      (rw (buffer-is ws out t reads n generated) (own _), rw (words-are ws out t reads n generated) (own []))
+
+-- a table that generating refuses with 19 still has its tree for the checker, whoever made it
+pub unreached-accepted : (ws : List ℕ) (t : Table) → readTable ws ≡ result t → (room e : ℕ) → generateOf (readTable ws) room ≡ refused 19 e 0
+    → (rest : List ℕ) → checkOf (readTable ws) (written (t .width) (tree (t .entries) (t .width)) ++ rest) ≡ result tt
+unreached-accepted ws t reads room e lost = let (fit, clean, lowest) = nineteen-judged ws t reads room e lost in own-accepted ws t reads room fit clean

@@ -15,7 +15,7 @@ use Rattle.words.specs.Outcome.{result, faulty, refused}
 use Rattle.table.specs.Ready.{Ready}
 use Rattle.table.specs.Table.{Entry, entriesAt}
 use Rattle.table.proofs.Views.{ready-read}
-use Rattle.choice.specs.Rule.{Choice}
+use Rattle.choice.specs.Rule.{Choice, selects}
 use Rattle.flat.specs.Nodes.{headerOf, nodeOf}
 use Rattle.flat.specs.declared.Header.{Header}
 use Rattle.flat.specs.declared.Header.the-variants.{Bad, Good}
@@ -23,14 +23,14 @@ use Rattle.flat.specs.declared.Node.the-variants.{Damaged, Asks, Names, Nothing
 use Rattle.cell.specs.Cell.{Cell, zeroSide, oneSide}
 use Rattle.cell.specs.Step.{free}
 use Rattle.cell.specs.Decide.{cell}
-use Rattle.checker.specs.Checker.{settled, isStepOne, isStepTwo, provided, meeting, checkFrom, checkBelow, checkSides, acceptsBy, accepts, checkOf}
+use Rattle.checker.specs.Checker.{settled, isStepTwo, provided, meeting, checkFrom, checkBelow, checkSides, acceptsBy, accepts, checkOf}
 use Rattle.checker.specs.declared.Ended.{Ended}
 use Rattle.checker.specs.declared.Ended.the-variants.{No, At}
 use Rattle.cell.proofs.Cells.{free-less}
 
 -- ---- a subtree, by its node
 module _ (es : List Entry) (ws : List ℕ) (width n : ℕ) (c : Cell) (i : ℕ) where
-  from-names : (f e : ℕ) → nodeOf width n i (word ws i) ≡ Names e → checkFrom f es ws width n c i ≡ provided (isStepOne (settled es c) e) (At (i + 1))
+  from-names : (f e : ℕ) → nodeOf width n i (word ws i) ≡ Names e → checkFrom f es ws width n c i ≡ provided (selects (settled es c) e) (At (i + 1))
   unfolding checkFrom
   from-names zero e d = rw d
   from-names (suc f) e d = rw d
@@ -61,11 +61,11 @@ module _ (es : List Entry) (ws : List ℕ) (width n : ℕ) (c : Cell) (i : ℕ) 
   check-damaged d = sym (from-damaged (free width (c .fixed)) d)
 
   -- a leaf: a is what is settled of the cell, t what is asked of it, and r what leaf_end says
-  pub check-names : (e : ℕ) (a : Choice) (t : Bool) (r : Ended) → nodeOf width n i (word ws i) ≡ Names e → a ≡ settled es c → t ≡ isStepOne (a) e
+  pub check-names : (e : ℕ) (a : Choice) (t : Bool) (r : Ended) → nodeOf width n i (word ws i) ≡ Names e → a ≡ settled es c → t ≡ selects (a) e
       → r ≡ provided t (At (i + 1)) → r ≡ checkBelow es ws width n c i
   unfolding checkBelow
   check-names e a t r d ea et er =
-      er ∙ ap (λ (b : Bool). provided b (At (i + 1))) (et ∙ ap (λ (x : Choice). isStepOne x e) ea) ∙ sym (from-names (free width (c .fixed)) e d)
+      er ∙ ap (λ (b : Bool). provided b (At (i + 1))) (et ∙ ap (λ (x : Choice). selects x e) ea) ∙ sym (from-names (free width (c .fixed)) e d)
 
   pub check-nothing : (a : Choice) (t : Bool) (r : Ended) → nodeOf width n i (word ws i) ≡ Nothing → a ≡ settled es c → t ≡ isStepTwo (a)
       → r ≡ provided t (At (i + 1)) → r ≡ checkBelow es ws width n c i

@@ -5,12 +5,13 @@ use mathlib.Core.List.{List, [], _∷_}
 use Rattle.words.specs.Outcome.{Outcome, result, faulty, refused}
 use Rattle.table.specs.Check.{readTable}
 use Rattle.table.specs.Worked.{printed}
+use Rattle.choice.specs.Rule.{selects}
 use Rattle.tree.proofs.Examples.{answered, walked, printed-tree}
-use Rattle.checker.specs.Checker.{isStepOne, isStepTwo, checkFrom, checkBelow, acceptsBy, accepts, checkOf}
+use Rattle.checker.specs.Checker.{isStepTwo, checkFrom, checkBelow, acceptsBy, accepts, checkOf}
 
 -- what the checker says of these words for the printed table, with every definition open
 unfoldable pub verdict : List ℕ → Outcome Unit
-unfolding answered walked isStepOne isStepTwo checkFrom checkBelow acceptsBy accepts checkOf
+unfolding answered walked selects isStepTwo checkFrom checkBelow acceptsBy accepts checkOf
 verdict words = checkOf (readTable printed) words
 
 pub record Verdicts : Type 0 where

@@ -8,7 +8,7 @@ use Rattle.words.specs.Tests.{_and_}
 use Rattle.words.specs.Words.{word, bit}
 use Rattle.words.specs.Outcome.{Outcome, result, faulty, refused}
 use Rattle.table.specs.Table.{Entry, Table}
-use Rattle.choice.specs.Rule.{Choice, names, nothing, ambiguous, judge}
+use Rattle.choice.specs.Rule.{Choice, names, nothing, ambiguous, selects, judge}
 use Rattle.flat.specs.Nodes.{headerOf, nodeOf}
 use Rattle.flat.specs.declared.Header.{Header}
 use Rattle.flat.specs.declared.Header.the-variants.{Bad, Good}
@@ -27,12 +27,6 @@ use Rattle.checker.specs.declared.Checked.the-variants as checked
 abbrev pub settled : List Entry → Cell → Choice
 settled es c = judge es (sure c) (live c)
 
--- "each named entry is the one of step 1 in its cell"
-unfoldable pub isStepOne : Choice → ℕ → Bool
-isStepOne (names i) e = eqb i e
-isStepOne nothing e = false
-isStepOne ambiguous e = false
-
 -- "each nothing has step 2"
 unfoldable pub isStepTwo : Choice → Bool
 isStepTwo (names i) = false
@@ -50,10 +44,11 @@ abbrev pub meeting : Ended → ℕ → Ended → Ended
 meeting No k r = No
 meeting (At m) k r = provided (eqb m k) r
 
--- the node at index i, in its cell: "no node damaged", what its leaf must be, "no path tests a bit twice"
+-- the node at index i, in its cell: "no node damaged", "each named entry is the one of step 1 in its cell", what a nothing must
+-- be, "no path tests a bit twice"
 abbrev pub checkNode : Node → Choice → Cell → ℕ → (ℕ → ℕ → Ended) → Ended
 checkNode Damaged a c i sides = No
-checkNode (Names e) a c i sides = provided (isStepOne a e) (At (i + 1))
+checkNode (Names e) a c i sides = provided (selects a e) (At (i + 1))
 checkNode Nothing a c i sides = provided (isStepTwo a) (At (i + 1))
 checkNode (Asks b k) a c i sides = provided (not (bit (c .fixed) b)) (sides b k)
 

@@ -9,13 +9,14 @@ ghost use Prim.Native.Nat.{ℕ, _+_, _≤_, _<_};
 ghost use Rattle.words.specs.Words.{bit};
 ghost use Rattle.table.specs.Ready.{Ready};
 ghost use Rattle.table.specs.Table.{entriesAt};
+ghost use Rattle.choice.specs.Rule.{selects};
 ghost use Rattle.choice.specs.Judged.{saidVerdict};
 ghost use Rattle.cell.specs.Decide.{cell as cellOf};
-ghost use Rattle.checker.specs.Checker.{isStepOne, isStepTwo, provided, checkBelow, checkSides, accepts as acceptsOf};
+ghost use Rattle.checker.specs.Checker.{isStepTwo, provided, checkBelow, checkSides, accepts as acceptsOf};
 
 // Whether a verdict names this entry.
 fn is_named(v: Verdict, entry: u32) -> bool
-    ensures { λ r. ⌜ r ≡ isStepOne (saidVerdict v) entry ⌝ }
+    ensures { λ r. ⌜ r ≡ selects (saidVerdict v) entry ⌝ }
 {
     match v {
         Verdict::Names(i) => i == entry as usize,

@@ -1,18 +1,18 @@
 -- The rule: two entries do not beat each other; fewer that pass are judged the same; who is named, and what it depends on. Assumes nothing.
 use Prim.Native.Nat.{ℕ, _<_}
 use native.Mathlib.Omega.{arith}
-use mathlib.Core.Path.{_≡_, refl, sym, ap₂, _∙_}
+use mathlib.Core.Path.{_≡_, refl, sym, ap, ap₂, _∙_}
 use mathlib.Core.Bool.{Bool, true, false, not}
 use mathlib.Core.List.{List}
 use mathlib.Core.Option.{Option, none, some}
 use lib.Bits.{bitAnd, and-comm}
 use lib.Dec.{eqb}
 use lib.ListN.{length}
-use borrow.Author.Tests.{eqb-true, eqb-false, ne-eqb}
+use borrow.Author.Tests.{eqb-true, eqb-false, eq-eqb, ne-eqb}
 use Rattle.words.specs.Tests.{_and_, _or_, exists, first}
 use Rattle.words.proofs.Bits.{includes-true}
 use Rattle.table.specs.Table.{Entry, entryNumber}
-use Rattle.choice.specs.Rule.{Choice, names, nothing, ambiguous, choiceOf, moreSpecific, givesWay, beatsAt, judgeAt, beats, judge}
+use Rattle.choice.specs.Rule.{Choice, names, nothing, ambiguous, selects, choiceOf, moreSpecific, givesWay, beatsAt, judgeAt, beats, judge}
 use Rattle.words.proofs.Logic.{cases, clash, isFalse, and-l, and-r, and-i, or-il, or-ir, or-i, or-e, not-t, not-it, not-if, every-at, every-make, every-same, exists-none, exists-no, exists-same, first-some, first-no, first-only, first-same}
 
 -- two entries are not each more specific than the other
@@ -29,6 +29,17 @@ pub answers {ℓ} : {G : Type ℓ} (a : Choice) → ((i : ℕ) → a ≡ names i
 answers (names i) f g h = f i refl
 answers nothing f g h = g refl
 answers ambiguous f g h = h refl
+
+-- a choice that is entry e
+pub selects-names : (a : Choice) (e : ℕ) → selects a e ≡ true → a ≡ names e
+unfolding selects
+selects-names (names i) e h = ap names (eqb-true i e h)
+selects-names nothing e h = cc
+selects-names ambiguous e h = cc
+
+pub names-selects : (a : Choice) (e : ℕ) → a ≡ names e → selects a e ≡ true
+unfolding selects
+names-selects a e q = rw q (eq-eqb e e refl)
 
 -- what a choice tells of its two parts
 pub choice-names : (o : Option ℕ) (b : Bool) (i : ℕ) → choiceOf o b ≡ names i → o ≡ some i

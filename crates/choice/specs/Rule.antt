@@ -25,6 +25,12 @@ pub data Choice : Type 0 where
   nothing : Choice
   ambiguous : Choice
 
+-- it is entry e
+unfoldable pub selects : Choice → ℕ → Bool
+selects (names i) e = eqb i e
+selects nothing e = false
+selects ambiguous e = false
+
 abbrev pub choiceOf : Option ℕ → Bool → Choice
 choiceOf (some i) b = names i
 choiceOf none true = ambiguous

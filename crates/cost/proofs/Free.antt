@@ -1,17 +1,20 @@
 -- What does not depend on cycles: each definition gives for entries without their cycles what it gives for the entries. Assumes nothing.
 use mathlib.Core.Path.{_≡_, refl, ap, ap₂, fun-ext}
+use mathlib.Core.Bool.{not}
 use mathlib.Core.List.{List, [], _∷_, map}
 use mathlib.Core.Option.{Option, none, some}
-use Prim.Native.Nat.{ℕ, zero, suc}
+use Prim.Native.Nat.{ℕ, zero, suc, _^_}
 use lib.ListN.{length}
+use Rattle.words.specs.Tests.{exists, first}
 use Rattle.words.specs.Outcome.{Outcome, result, faulty, refused}
 use Rattle.table.specs.Table.{Entry, Table, entryNumber}
-use Rattle.choice.specs.Rule.{Choice, names, nothing, ambiguous, moreSpecific, givesWay, beatsAt, judgeAt, judge}
+use Rattle.choice.specs.Rule.{Choice, names, nothing, ambiguous, selects, moreSpecific, givesWay, beatsAt, judgeAt, judge}
 use Rattle.selection.specs.Selection.{claims, select}
 use Rattle.selection.specs.Lookup.{lookOf}
 use Rattle.cell.specs.Cell.{Cell, dead, live, sure, openEntry}
 use Rattle.cell.specs.Step.{inOpen, votesAt, wantedAt, testedAt, settledAt, stepAt, step, Step}
 use Rattle.tree.specs.Tree.{Tree, leaf, grow, treeOf, below, tree}
+use Rattle.tree.specs.Reach.{reached, lowestUnreached}
 use Rattle.tree.specs.Generate.{generateOf, leftBy, bufferOf, surveyOf, measureOf}
 use Rattle.operands.specs.Calls.{decodedAs, decodeOf, encodedAs, encodedFrom, encodeOf}
 use Rattle.cost.specs.Recosted.{uncosted, bare}
@@ -53,6 +56,11 @@ pub tree-free : (es : List Entry) (width : ℕ) → tree (map uncosted es) width
 unfolding tree below
 tree-free es width = tree-of-free es width _ _
 
+lowest-free : (es : List Entry) (width : ℕ) → lowestUnreached (map uncosted es) width ≡ lowestUnreached es width
+unfolding lowestUnreached reached
+lowest-free es width =
+    ap₂ (λ (chosen : ℕ → Choice) (n : ℕ). first (λ e. not (exists (λ w. selects (chosen w) e) (2 ^ width))) n) (fun-ext (select-free es)) (same-length es)
+
 -- ---- the calls, on a table that is read
 
 module _ (t : Table) where
@@ -62,7 +70,7 @@ module _ (t : Table) where
 
   pub generate-free : (room : ℕ) → generateOf (result (bare t)) room ≡ generateOf (result t) room
   unfolding generateOf bare
-  generate-free room = rw (tree-free (t .entries) (t .width))
+  generate-free room = rw (tree-free (t .entries) (t .width), lowest-free (t .entries) (t .width))
 
   left-free : (o : Outcome ℕ) (out : List ℕ) → leftBy (bare t) o out ≡ leftBy t o out
   unfolding leftBy bare
@@ -76,7 +84,7 @@ module _ (t : Table) where
 
   pub measure-free : measureOf (result (bare t)) ≡ measureOf (result t)
   unfolding measureOf surveyOf bare
-  measure-free = rw (tree-free (t .entries) (t .width))
+  measure-free = rw (tree-free (t .entries) (t .width), lowest-free (t .entries) (t .width))
 
   decoded-free : (w : ℕ) (c : Choice) → decodedAs (map uncosted (t .entries)) w c ≡ decodedAs (t .entries) w c
   unfolding decodedAs uncosted

@@ -105,6 +105,7 @@ fn pack_measure(answer: Measured) -> u64
         Measured::Tree(nodes, tests) => (nodes as u64) + (tests as u64) * 65536,
         Measured::NoFit => 5 * 4294967296,
         Measured::Ambiguous(word) => 6 * 4294967296 + (word as u64),
+        Measured::Unreached(entry) => 19 * 4294967296 + (entry as u64),
         Measured::Refused(number, place) => (number as u64) * 4294967296 + (place as u64),
     }
 }

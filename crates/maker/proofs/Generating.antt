@@ -9,26 +9,33 @@ use native.Mathlib.Omega.{arith}
 use lib.ListN.{length, set, drop, replicate}
 use lib.Seq.{sets-eq}
 use borrow.Author.Tests.{leb-true, le-leb}
-use Rattle.words.proofs.Logic.{and-i, and-l, and-r, isFalse}
+use Rattle.words.proofs.Logic.{and-i, and-l, and-r, isFalse, options}
 use Rattle.words.proofs.Lists.{set-sets}
 use Rattle.words.specs.Outcome.{Outcome, result, faulty, refused}
+use Rattle.table.specs.Lawful.{goodTable}
 use Rattle.table.specs.Table.{Entry, Table, entriesAt}
 use Rattle.table.specs.Check.{readTable}
 use Rattle.table.specs.Ready.{Ready}
-use Rattle.table.proofs.Views.{ready-read}
+use Rattle.table.proofs.Laws.{length-entries}
+use Rattle.table.proofs.Views.{ready-few, ready-read}
+use Rattle.cell.proofs.Deciding.{ready-good}
 use Rattle.cell.specs.Cell.{start}
-use Rattle.tree.specs.Tree.{Tree, tree, below, size, conflict}
+use Rattle.tree.specs.Tree.{Tree, tree, below, size, depth, conflict}
 use Rattle.tree.specs.Written.{headerWord, nodes, written}
-use Rattle.tree.specs.Generate.{tableWith, fits, judged, generateOf, leftBy, bufferOf, measured, surveyOf, measureOf}
+use Rattle.tree.specs.Generate.{tableWith, fits, judged, judgedIn, generateOf, leftBy, bufferOf, surveyOf, measureOf}
+use Rattle.tree.specs.Reach.{lowestUnreached}
 use Rattle.tree.proofs.Sizes.{length-nodes}
 use Rattle.maker.specs.Answers.{saidGenerate, Generates}
-use Rattle.maker.specs.Parts.{WritesTree, firstOf, Written, Making}
+use Rattle.maker.specs.Parts.{WritesTree, firstOf, Written, Making, lowestUnmarked, byLeaves, judgedBy, saidOf}
 use Rattle.maker.specs.declared.First.{First}
 use Rattle.maker.specs.declared.First.the-variants.{Clean, Clash}
 use Rattle.maker.specs.declared.Made.{Made}
 use Rattle.maker.specs.declared.Made.the-variants.{Full, Wrote}
+use Rattle.maker.specs.declared.Judged.{Judged}
+use Rattle.maker.specs.declared.Judged.the-variants.{Stands}
 use Rattle.maker.specs.declared.Generated.{Generated}
 use Rattle.maker.specs.declared.Generated.the-variants as generated
+use Rattle.maker.proofs.Marking.{lowest-marked}
 
 -- the first conflict, back from the code's answer
 first-clean : (o : Option ℕ) → Clean ≡ firstOf o → o ≡ none
@@ -41,17 +48,9 @@ first-clash (some v) w e = let q : v ≡ w = cc in ap some q
 
 -- ---- what is judged of the whole tree, whatever the call answers of it
 
-module _ (es : List Entry) (width room : ℕ) {limit : ℕ} (is : limit ≡ min room 16384) {r : Made} {out last : List ℕ}
-    (made : Making r out last (below es width start) start 1 limit) where
+module _ (es : List Entry) (width room : ℕ) (good : goodTable width es ≡ true) (few : length es ≤ 256) {limit : ℕ} (is : limit ≡ min room 16384) where
   abbrev whole : Tree
   whole = tree es width
-
-  abbrev verdict : {A : Type 0} → A → Outcome A
-  verdict a = judged (fits whole room) (conflict start whole) a
-
-  whole-made : Making r out last whole start 1 limit
-  unfolding tree
-  whole-made = made
 
   no-fit : limit < 1 + size whole → fits whole room ≡ false
   unfolding fits
@@ -64,39 +63,64 @@ module _ (es : List Entry) (width room : ℕ) {limit : ℕ} (is : limit ≡ min 
       let b : size whole + 1 ≤ 16384 = omega arith in
       and-i (le-leb _ _ a) (le-leb _ _ b)
 
-  pub full-judged : {A : Type 0} (a : A) → r ≡ Full → verdict a ≡ refused 5 0 0
-  unfolding judged
-  full-judged a e = rw (no-fit (whole-made .full e))
+  whole-judged : {A : Type 0} (say : ℕ → ℕ → A) (r : Made) {out last marks : List ℕ} → Making r out last (replicate 256 0) marks whole start 1 limit
+      → saidOf say (judgedBy r (lowestUnmarked marks (length es))) ≡ judgedIn (tableWith es width) room (say (size whole + 1) (depth whole))
+  unfolding judged judgedBy byLeaves
+  whole-judged say Full m = rw (no-fit (m .full refl))
+  whole-judged say (Wrote n (Clash x) d) m =
+      let w = m .wrote n (Clash x) d refl in
+      rw (does-fit (w .room), first-clash (conflict start whole) x (w .first-is))
+  whole-judged say (Wrote n Clean d) m =
+      let w = m .wrote n Clean d refl in
+      let next : n ≡ size whole + 1 = omega (arith, w .next-is) in
+      rw (does-fit (w .room), first-clean (conflict start whole) (w .first-is), lowest-marked es width good few (w .marks-are))
+      (options (lowestUnreached es width)
+      (λ q. rw q (ap₂ (λ (x y : ℕ). result (say x y)) next (w .depth-is)))
+      (λ e q. rw q))
 
-  module _ {n : ℕ} {f : First} {d : ℕ} (e : r ≡ Wrote n f d) where
-    pub wrote : Written out last whole start 1 limit n f d
-    wrote = whole-made .wrote n f d e
+-- a tree that stands was written
+stands-wrote : (r : Made) (o : Option ℕ) (n d : ℕ) → judgedBy r o ≡ Stands n d → r ≡ Wrote n Clean d
+unfolding judgedBy byLeaves
+stands-wrote Full o n d e = absurd (let z : _≡_ {A = ℕ} 0 1 = cc in omega arith)
+stands-wrote (Wrote m (Clash w) k) o n d e = absurd (let z : _≡_ {A = ℕ} 0 1 = cc in omega arith)
+stands-wrote (Wrote m Clean k) (some i) n d e = absurd (let z : _≡_ {A = ℕ} 0 1 = cc in omega arith)
+stands-wrote (Wrote m Clean k) none n d e = cc
 
-    pub clash-judged : {A : Type 0} (a : A) (w : ℕ) → f ≡ Clash w → verdict a ≡ refused 6 0 w
-    unfolding judged
-    clash-judged a w c = rw (does-fit (wrote .room), first-clash (conflict start whole) w (sym c ∙ wrote .first-is))
+-- of a table without fault, from what the calls say: the entries have no marks at first, and j is what is judged of what the maker wrote
+module _ (ws places : List ℕ) (width n : ℕ) (ready : Ready ws places width n) (room : ℕ) {limit : ℕ} (is : limit ≡ min room 16384) {r : Made}
+    {out last m0 marks : List ℕ} (none-marked : m0 ≡ replicate 256 0)
+    (made : Making r out last m0 marks (below (entriesAt ws n 1) width start) start 1 limit) {j : Judged} (judges : j ≡ judgedBy r (lowestUnmarked marks n)) where
+  abbrev es : List Entry
+  es = entriesAt ws n 1
 
-    pub clean-judged : {A : Type 0} (a : A) → f ≡ Clean → verdict a ≡ result a
-    unfolding judged
-    clean-judged a c = rw (does-fit (wrote .room), first-clean (conflict start whole) (sym c ∙ wrote .first-is))
+  abbrev table : Table
+  table = tableWith es width
 
-  -- ---- sizing
+  whole-made : Making r out last m0 marks (tree es width) start 1 limit
+  unfolding tree
+  whole-made = made
 
-  -- its tree does not fit, has a conflict, or is as large and as deep as the maker says
-  pub full-surveyed : r ≡ Full → refused 5 0 0 ≡ surveyOf (result (tableWith es width)) room
+  judged-said : {A : Type 0} (say : ℕ → ℕ → A) → saidOf say j ≡ judgedIn table room (say (size (tree es width) + 1) (depth (tree es width)))
+  judged-said say =
+      let l : length es ≡ n = length-entries ws n 1 in
+      ap (saidOf say) (judges ∙ ap (λ (k : ℕ). judgedBy r (lowestUnmarked marks k)) (sym l))
+      ∙ whole-judged es width room (ready-good ws places width n ready) (rw l (ready-few ws places width n ready)) is say r (rw none-marked at whole-made)
+
+  -- what generating and sizing say of it
+  pub judged-generates : saidOf (λ next tests. next) j ≡ generateOf (result table) room
+  unfolding generateOf
+  judged-generates = judged-said (λ next tests. next)
+
+  pub judged-surveys : saidOf (λ next tests. record { nodes = next - 1; tests = tests }) j ≡ surveyOf (result table) room
   unfolding surveyOf
-  full-surveyed e = sym (full-judged (measured whole) e)
+  judged-surveys =
+      let nodes : size (tree es width) + 1 - 1 ≡ size (tree es width) = omega arith in
+      judged-said (λ next tests. record { nodes = next - 1; tests = tests })
+      ∙ ap (λ (k : ℕ). judgedIn table room (record { nodes = k; tests = depth (tree es width) })) nodes
 
-  module _ {n : ℕ} {f : First} {d : ℕ} (e : r ≡ Wrote n f d) where
-    pub clash-surveyed : (w : ℕ) → f ≡ Clash w → refused 6 0 w ≡ surveyOf (result (tableWith es width)) room
-    unfolding surveyOf
-    clash-surveyed w c = sym (clash-judged e (measured whole) w c)
-
-    pub clean-surveyed : f ≡ Clean → result (record { nodes = n - 1; tests = d }) ≡ surveyOf (result (tableWith es width)) room
-    unfolding surveyOf
-    clean-surveyed c =
-        let k : n - 1 ≡ size whole = omega (arith, wrote e .next-is) in
-        ap₂ (λ (x y : ℕ). result (record { nodes = x; tests = y })) k (wrote e .depth-is) ∙ sym (clean-judged e (measured whole) c)
+  -- where it stands, its words were written
+  pub stands : (next tests : ℕ) → j ≡ Stands next tests → Written out last m0 marks (tree es width) start 1 limit next Clean tests
+  stands next tests q = whole-made .wrote next Clean tests (stands-wrote r _ next tests (sym judges ∙ q))
 
 pub measure-faulty : (ws : List ℕ) (a b : ℕ) → readTable ws ≡ faulty a b → faulty a b ≡ measureOf (readTable ws)
 unfolding measureOf surveyOf
@@ -109,46 +133,28 @@ measure-read ws places width n ready = rw (ready-read ws places width n ready)
 -- ---- generating
 
 module _ (es : List Entry) (width : ℕ) (out : List ℕ) where
-  abbrev table : Table
-  table = tableWith es width
-
   -- a refusal leaves the buffer all zero
-  cleared : (g : Generated) {n p w : ℕ} → generateOf (result table) (length out) ≡ refused n p w → saidGenerate g ≡ refused n p w
+  pub cleared : (g : Generated) {n p w : ℕ} → saidGenerate g ≡ refused n p w → saidGenerate g ≡ generateOf (result (tableWith es width)) (length out)
       → WritesTree es width out (replicate (length out) 0) g
   unfolding bufferOf leftBy
-  cleared g e q = record { answer = q ∙ sym e; buffer = rw e }
+  cleared g q e = record { answer = e; buffer = rw (sym e ∙ q) }
 
-  module _ {limit : ℕ} (is : limit ≡ min (length out) 16384) {r : Made} {last : List ℕ} (made : Making r out last (below es width start) start 1 limit) where
-    pub full-writes : r ≡ Full → WritesTree es width out (replicate (length out) 0) generated.NoFit
-    unfolding generateOf
-    full-writes e = cleared generated.NoFit (full-judged es width (length out) is made _ e) refl
+  -- else the header is set in what the maker wrote
+  module _ {limit : ℕ} (is : limit ≡ min (length out) 16384) {last m0 marks : List ℕ} {n d : ℕ} (w : Written out last m0 marks (tree es width) start 1 limit n Clean d) where
+    header-set : (x : ℕ) → x ≡ headerWord width (n - 1) → set last 0 x ≡ written width (tree es width) ++ drop (length (written width (tree es width))) out
+    unfolding written
+    header-set x ex =
+        let g : Tree = tree es width in
+        ap (λ (l : List ℕ). set l 0 x) (w .words)
+        ∙ set-sets (nodes 1 g) out 1 0 x (omega arith)
+        ∙ sets-eq (x ∷ nodes 1 g) out 0 (omega (arith, is, w .room, length-nodes g 1))
+        ∙ rw (zero-add (suc (length (nodes 1 g))), ex, w .next-is)
+        (ap (λ (k : ℕ). headerWord width k ∷ (nodes 1 g ++ drop (suc (length (nodes 1 g))) out)) (omega arith))
 
-    module _ {n : ℕ} {f : First} {d : ℕ} (e : r ≡ Wrote n f d) where
-      pub clash-writes : (w : ℕ) → f ≡ Clash w → WritesTree es width out (replicate (length out) 0) (generated.Ambiguous w)
-      unfolding generateOf
-      clash-writes w c = cleared (generated.Ambiguous w) (clash-judged es width (length out) is made e _ w c) refl
-
-      header-set : (x : ℕ) → x ≡ headerWord width (n - 1) → set last 0 x ≡ written width (tree es width) ++ drop (length (written width (tree es width))) out
-      unfolding written
-      header-set x ex =
-          let g : Tree = tree es width in
-          let w = wrote es width (length out) is made e in
-          ap (λ (l : List ℕ). set l 0 x) (w .words)
-          ∙ set-sets (nodes 1 g) out 1 0 x (omega arith)
-          ∙ sets-eq (x ∷ nodes 1 g) out 0 (omega (arith, is, w .room, length-nodes g 1))
-          ∙ rw (zero-add (suc (length (nodes 1 g))), ex, w .next-is)
-          (ap (λ (k : ℕ). headerWord width k ∷ (nodes 1 g ++ drop (suc (length (nodes 1 g))) out)) (omega arith))
-
-      -- else the header is set in what the maker wrote
-      pub clean-writes : (x : ℕ) → f ≡ Clean → x ≡ headerWord width (n - 1) → WritesTree es width out (set last 0 x) (generated.Words n)
-      unfolding generateOf bufferOf leftBy
-      clean-writes x c ex =
-          let q : judged (fits (tree es width) (length out)) (conflict start (tree es width)) (size (tree es width) + 1) ≡ result (size (tree es width) + 1)
-          = clean-judged es width (length out) is made e _ c in
-          record {
-            answer = ap result (let k : n ≡ size (tree es width) + 1 = omega (arith, wrote es width (length out) is made e .next-is) in k) ∙ sym q;
-            buffer = rw q (header-set x ex);
-          }
+    pub stands-writes : (x : ℕ) → x ≡ headerWord width (n - 1) → result n ≡ generateOf (result (tableWith es width)) (length out)
+        → WritesTree es width out (set last 0 x) (generated.Words n)
+    unfolding bufferOf leftBy
+    stands-writes x ex e = record { answer = e; buffer = rw (sym e) (header-set x ex) }
 
 pub generate-faulty : (ws out : List ℕ) (a b : ℕ) → readTable ws ≡ faulty a b → Generates ws out out (generated.Refused a b)
 unfolding generateOf bufferOf

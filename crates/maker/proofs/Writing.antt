@@ -13,7 +13,7 @@ use Rattle.cell.specs.Cell.{Cell, zeroSide, oneSide}
 use Rattle.tree.specs.Tree.{Tree, leaf, test, size, depth, conflict, ifConflict}
 use Rattle.tree.specs.Written.{leafWord, testWord, nodes}
 use Rattle.tree.proofs.Sizes.{length-nodes, depth-lt}
-use Rattle.maker.specs.Parts.{firstOf, orFirst, Written}
+use Rattle.maker.specs.Parts.{firstOf, orFirst, marked, marksOf, Written}
 use Rattle.maker.specs.declared.First.{First}
 
 -- a conflict leaf's place is taken by kind 10
@@ -22,10 +22,11 @@ unfolding leafWord
 conflict-word = refl
 
 -- a leaf
-pub leaf-written : (before : List ℕ) (c : Cell) (a : Choice) (at limit : ℕ) → at < limit
-    → Written before (set before at (leafWord a)) (leaf a) c at limit (at + 1) (firstOf (ifConflict a (c .bits))) 0
-unfolding size depth nodes conflict
-leaf-written before c a at limit room = record { room = omega arith; within = omega arith; next-is = refl; first-is = refl; depth-is = refl; words = refl }
+pub leaf-written : (before unmarked : List ℕ) (c : Cell) (a : Choice) (at limit : ℕ) → at < limit
+    → Written before (set before at (leafWord a)) unmarked (marked a unmarked) (leaf a) c at limit (at + 1) (firstOf (ifConflict a (c .bits))) 0
+unfolding size depth nodes conflict marksOf
+leaf-written before unmarked c a at limit room =
+    record { room = omega arith; within = omega arith; next-is = refl; first-is = refl; depth-is = refl; words = refl; marks-are = refl }
 
 -- the zero side, the node before it, and the one side
 node-sides : (out : List ℕ) (at w k : ℕ) (ws vs : List ℕ) → length ws ≡ k
@@ -52,12 +53,12 @@ module _ (z o : Tree) (b at limit : ℕ) where
   unfolding size
   one-full n e h = omega arith
 
-  pub test-written : (c : Cell) (out o1 o2 : List ℕ) (n m : ℕ) (f g : First) (d e : ℕ)
-      → Written out o1 z (zeroSide c b) (at + 1) limit n f d
-      → Written (set o1 at (testWord b n)) o2 o (oneSide c b) n limit m g e
-      → Written out o2 (test b z o) c at limit m (orFirst f g) (suc (max d e))
-  unfolding size depth nodes conflict
-  test-written c out o1 o2 n m f g d e x y =
+  pub test-written : (c : Cell) (out o1 o2 m0 m1 m2 : List ℕ) (n m : ℕ) (f g : First) (d e : ℕ)
+      → Written out o1 m0 m1 z (zeroSide c b) (at + 1) limit n f d
+      → Written (set o1 at (testWord b n)) o2 m1 m2 o (oneSide c b) n limit m g e
+      → Written out o2 m0 m2 (test b z o) c at limit m (orFirst f g) (suc (max d e))
+  unfolding size depth nodes conflict marksOf
+  test-written c out o1 o2 m0 m1 m2 n m f g d e x y =
       record {
         room = omega (arith, x .next-is, y .room);
         within = omega (arith, x .within, y .within, x .next-is, y .next-is, x .depth-is, y .depth-is, depth-lt z, depth-lt o);
@@ -69,4 +70,5 @@ module _ (z o : Tree) (b at limit : ℕ) where
             ∙ ap (λ (l : List ℕ). sets (set l at (testWord b n)) n (nodes n o)) (x .words)
             ∙ ap (λ (k : ℕ). sets (set (sets out (at + 1) (nodes (at + 1) z)) at (testWord b k)) k (nodes k o)) (x .next-is)
             ∙ node-sides out at (testWord b (at + 1 + size z)) (size z) (nodes (at + 1) z) (nodes (at + 1 + size z) o) (length-nodes z (at + 1));
+        marks-are = y .marks-are ∙ ap (marksOf o) (x .marks-are);
       }

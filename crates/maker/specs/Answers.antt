@@ -16,6 +16,7 @@ abbrev pub saidGenerate : Generated → Outcome ℕ
 saidGenerate (generated.Words n) = result n
 saidGenerate generated.NoFit = refused 5 0 0
 saidGenerate (generated.Ambiguous w) = refused 6 0 w
+saidGenerate (generated.Unreached e) = refused 19 e 0
 saidGenerate (generated.Refused number place) = faulty number place
 
 -- generating answers what the definition says, and the whole buffer is as the definition says
@@ -28,4 +29,5 @@ abbrev pub saidMeasure : Measured → Outcome Measure
 saidMeasure (measured.Tree n d) = result (record { nodes = n; tests = d })
 saidMeasure measured.NoFit = refused 5 0 0
 saidMeasure (measured.Ambiguous w) = refused 6 0 w
+saidMeasure (measured.Unreached e) = refused 19 e 0
 saidMeasure (measured.Refused number place) = faulty number place

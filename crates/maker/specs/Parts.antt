@@ -3,12 +3,15 @@ use Prim.Native.Nat.{ℕ, _+_, _≤_, _<_}
 use mathlib.Core.Path.{_≡_}
 use mathlib.Core.List.{List}
 use mathlib.Core.Option.{Option, none, some}
-use lib.ListN.{length}
+use lib.Dec.{eqb}
+use lib.ListN.{length, getD, set}
 use lib.Seq.{sets}
-use Rattle.words.specs.Outcome.{result}
+use Rattle.words.specs.Tests.{first as lowest}
+use Rattle.words.specs.Outcome.{Outcome, result, refused}
 use Rattle.table.specs.Table.{Entry}
+use Rattle.choice.specs.Rule.{Choice, names, nothing, ambiguous}
 use Rattle.cell.specs.Cell.{Cell, zeroSide, oneSide}
-use Rattle.tree.specs.Tree.{Tree, test, below, size, depth, conflict}
+use Rattle.tree.specs.Tree.{Tree, leaf, test, below, size, depth, conflict}
 use Rattle.tree.specs.Written.{nodes}
 use Rattle.tree.specs.Generate.{tableWith, generateOf, bufferOf}
 use Rattle.maker.specs.Answers.{saidGenerate}
@@ -16,6 +19,8 @@ use Rattle.maker.specs.declared.First.{First}
 use Rattle.maker.specs.declared.First.the-variants.{Clean, Clash}
 use Rattle.maker.specs.declared.Made.{Made}
 use Rattle.maker.specs.declared.Made.the-variants.{Full, Wrote}
+use Rattle.maker.specs.declared.Judged.{Judged}
+use Rattle.maker.specs.declared.Judged.the-variants.{Stands, NoFit, Ambiguous, Unreached}
 use Rattle.maker.specs.declared.Generated.{Generated}
 
 -- generating, of the tree of entries that are read
@@ -36,17 +41,52 @@ unfoldable pub orFirst : First → First → First
 orFirst Clean g = g
 orFirst (Clash w) g = Clash w
 
+-- an entry that a leaf names is marked by a 1
+abbrev pub marked : Choice → List ℕ → List ℕ
+marked (names e) marks = set marks e 1
+marked nothing marks = marks
+marked ambiguous marks = marks
+
+-- the marks after a tree's leaves
+unfoldable pub marksOf : Tree → List ℕ → List ℕ
+marksOf (leaf a) marks = marked a marks
+marksOf (test i l r) marks = marksOf r (marksOf l marks)
+
 -- the tree t of the cell c was written from index `at` on, as far as the buffer reaches: the next index, the first conflict, the
--- greatest number of tests, and the words
-pub record Written (before after : List ℕ) (t : Tree) (c : Cell) (at limit next : ℕ) (first : First) (deep : ℕ) : Type 0 where
+-- greatest number of tests, the words, and the marks
+pub record Written (before after unmarked marks : List ℕ) (t : Tree) (c : Cell) (at limit next : ℕ) (first : First) (deep : ℕ) : Type 0 where
   pub room : at + size t ≤ limit
   pub within : (at < next) × (next ≤ limit) × (deep < limit)
   pub next-is : next ≡ at + size t
   pub first-is : first ≡ firstOf (conflict c t)
   pub depth-is : deep ≡ depth t
   pub words : after ≡ sets before at (nodes at t)
+  pub marks-are : marks ≡ marksOf t unmarked
 
 -- what a maker says of the tree t: written, or it does not fit; words that it wrote before it knew are of the buffer that is cleared
-pub record Making (r : Made) (before after : List ℕ) (t : Tree) (c : Cell) (at limit : ℕ) : Type 0 where
+pub record Making (r : Made) (before after unmarked marks : List ℕ) (t : Tree) (c : Cell) (at limit : ℕ) : Type 0 where
   pub full : r ≡ Full → limit < at + size t
-  pub wrote : (next : ℕ) (first : First) (deep : ℕ) → r ≡ Wrote next first deep → Written before after t c at limit next first deep
+  pub wrote : (next : ℕ) (first : First) (deep : ℕ) → r ≡ Wrote next first deep → Written before after unmarked marks t c at limit next first deep
+
+-- ---- what is judged of a whole tree
+
+-- the lowest of n entries that has no mark
+abbrev pub lowestUnmarked : List ℕ → ℕ → Option ℕ
+lowestUnmarked marks n = lowest (λ e. eqb (getD marks e 0) 0) n
+
+unfoldable pub byLeaves : Option ℕ → ℕ → ℕ → Judged
+byLeaves (some e) next tests = Unreached e
+byLeaves none next tests = Stands next tests
+
+-- from what the maker answers, and the lowest entry without a mark
+unfoldable pub judgedBy : Made → Option ℕ → Judged
+judgedBy Full o = NoFit
+judgedBy (Wrote next (Clash w) tests) o = Ambiguous w
+judgedBy (Wrote next Clean tests) o = byLeaves o next tests
+
+-- what a call says of it that answers `say next tests` where the tree stands
+abbrev pub saidOf : {A : Type 0} → (ℕ → ℕ → A) → Judged → Outcome A
+saidOf say (Stands next tests) = result (say next tests)
+saidOf say NoFit = refused 5 0 0
+saidOf say (Ambiguous w) = refused 6 0 w
+saidOf say (Unreached e) = refused 19 e 0

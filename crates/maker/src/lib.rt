@@ -24,12 +24,21 @@ enum Made {
     Wrote(usize, First, u32),
 }
 
-// What generating answers: the number of words of the tree; or why not: it does not fit (5), an ambiguous word (6),
-// or the number and place of the table's first fault (1 to 4).
+// What is judged of a whole tree: it stands, with the index after it and its greatest number of tests; or why it is refused.
+enum Judged {
+    Stands(usize, u32),
+    NoFit,
+    Ambiguous(u32),
+    Unreached(u32),
+}
+
+// What generating answers: the number of words of the tree; or why not: it does not fit (5), an ambiguous word (6), the lowest entry
+// that no word selects (19), or the number and place of the table's first fault (1 to 4).
 pub enum Generated {
     Words(u32),
     NoFit,
     Ambiguous(u32),
+    Unreached(u32),
     Refused(u32, u32),
 }
 
@@ -42,6 +51,7 @@ impl Generated {
             Generated::Words(_) => Cause::of(0, 0, 0),
             Generated::NoFit => Cause::of(5, 0, 0),
             Generated::Ambiguous(word) => Cause::of(6, 0, word),
+            Generated::Unreached(entry) => Cause::of(19, entry, 0),
             Generated::Refused(number, place) => Cause::of(number, place, 0),
         }
     }
@@ -63,11 +73,12 @@ pub fn generate(table: &[u32], out: &mut [u32]) -> Generated
 }
 
 // What sizing answers: the number of nodes and the greatest number of tests on a path; or why not: over the tree limit (5), an
-// ambiguous word (6), or the number and place of the table's first fault (1 to 4).
+// ambiguous word (6), the lowest entry that no word selects (19), or the number and place of the table's first fault (1 to 4).
 pub enum Measured {
     Tree(u32, u32),
     NoFit,
     Ambiguous(u32),
+    Unreached(u32),
     Refused(u32, u32),
 }
 
@@ -80,6 +91,7 @@ impl Measured {
             Measured::Tree(_, _) => Cause::of(0, 0, 0),
             Measured::NoFit => Cause::of(5, 0, 0),
             Measured::Ambiguous(word) => Cause::of(6, 0, word),
+            Measured::Unreached(entry) => Cause::of(19, entry, 0),
             Measured::Refused(number, place) => Cause::of(number, place, 0),
         }
     }

@@ -1,5 +1,6 @@
 // The makers: the tree of a cell, in its written form, into a lent buffer. Making a tree and making a node call each other;
 // the number of unfixed bits falls with each tested bit. Words that the buffer does not reach are not kept, so that a tree can be sized.
+// An entry that a leaf names is marked.
 use crate::First;
 use crate::Made;
 use cell::Decision;
@@ -65,6 +66,16 @@ fn put(out: &mut [u32], at: usize, word: u32)
     }
 }
 
+// Marks an entry, if there is a place for its mark.
+fn mark(marks: &mut [u8], e: u8)
+    ensures { λ _. ⌜ now (marks .exit) ≡ set (now (marks .entry)) e 1 ⌝ }
+{
+    let at = e as usize;
+    if at < marks.len() {
+        marks[at] = 1;
+    }
+}
+
 // Writes a leaf at an index.
 fn make_leaf(out: &mut [u32], at: usize, word: u32, first: First) -> Made
     requires { ⌜ at < 16384 ⌝ }
@@ -74,7 +85,7 @@ fn make_leaf(out: &mut [u32], at: usize, word: u32, first: First) -> Made
     Made::Wrote(at + 1, first, 0)
 }
 
-// Writes the tree of a cell from an index on, below the limit.
+// Writes the tree of a cell from an index on, below the limit, and marks the entries that its leaves name.
 pub fn make_tree(
     table: &[u32],
     places: &[u32; 256],
@@ -85,20 +96,36 @@ pub fn make_tree(
     out: &mut [u32],
     at: usize,
     limit: usize,
+    marks: &mut [u8],
 ) -> Made
     requires { ⌜ (limit ≤ 16384) × Ready (now table) (now places) width count ⌝ }
-    ensures { λ r. ⌜ Making r (now (out .entry)) (now (out .exit)) (below (entriesAt (now (table .entry)) count 1) width (cellOf fixed bits)) (cellOf fixed bits) at limit ⌝ }
+    ensures { λ r. ⌜ Making r (now (out .entry)) (now (out .exit)) (now (marks .entry)) (now (marks .exit)) (below (entriesAt (now (table .entry)) count 1) width (cellOf fixed bits)) (cellOf fixed bits) at limit ⌝ }
 {
     if limit <= at {
         return Made::Full;
     }
     let decision = cell::decide(table, places, count, width, fixed, bits);
     match decision {
-        Decision::Names(e) => make_leaf(out, at, names_word(e), First::Clean),
+        Decision::Names(e) => {
+            mark(marks, e);
+            make_leaf(out, at, names_word(e), First::Clean)
+        }
         Decision::Nothing => make_leaf(out, at, nothing_word(), First::Clean),
         Decision::Conflict => make_leaf(out, at, nothing_word(), First::Clash(bits)),
         Decision::Test(b) => {
-            make_node(table, places, count, width, fixed, bits, b, out, at, limit)
+            make_node(
+                table,
+                places,
+                count,
+                width,
+                fixed,
+                bits,
+                b,
+                out,
+                at,
+                limit,
+                marks,
+            )
         }
     }
 }
@@ -115,13 +142,25 @@ fn make_node(
     out: &mut [u32],
     at: usize,
     limit: usize,
+    marks: &mut [u8],
 ) -> Made
     requires { ⌜ (limit ≤ 16384) × (at < limit) × (b < width) × (bit fixed b ≡ false) × Ready (now table) (now places) width count ⌝ }
-    ensures { λ r. ⌜ Making r (now (out .entry)) (now (out .exit)) (splitOf (entriesAt (now (table .entry)) count 1) width (cellOf fixed bits) b) (cellOf fixed bits) at limit ⌝ }
+    ensures { λ r. ⌜ Making r (now (out .entry)) (now (out .exit)) (now (marks .entry)) (now (marks .exit)) (splitOf (entriesAt (now (table .entry)) count 1) width (cellOf fixed bits) b) (cellOf fixed bits) at limit ⌝ }
 {
     let tested: u32 = 1 << b;
     let more = fixed | tested;
-    let zero = make_tree(table, places, count, width, more, bits, out, at + 1, limit);
+    let zero = make_tree(
+        table,
+        places,
+        count,
+        width,
+        more,
+        bits,
+        out,
+        at + 1,
+        limit,
+        marks,
+    );
     match zero {
         Made::Full => Made::Full,
         Made::Wrote(next, first, deep) => {
@@ -136,6 +175,7 @@ fn make_node(
                 out,
                 next,
                 limit,
+                marks,
             );
             match one {
                 Made::Full => Made::Full,

@@ -1,12 +1,13 @@
-// The whole tree of a table without fault: written into a lent buffer, or only sized.
+// The whole tree of a table without fault: written into a lent buffer, or only sized; and what is judged of it.
 use crate::First;
 use crate::Generated;
+use crate::Judged;
 use crate::LIMIT;
 use crate::Made;
 use crate::Measured;
 use crate::nodes;
 ghost use mathlib.Core.Path.{_≡_};
-ghost use Prim.Native.Nat.{ℕ, _<_};
+ghost use Prim.Native.Nat.{ℕ, _≤_, _<_};
 ghost use lib.ListN.{length, replicate};
 ghost use Rattle.words.specs.Outcome.{result};
 ghost use Rattle.table.specs.Ready.{Ready};
@@ -14,7 +15,7 @@ ghost use Rattle.table.specs.Table.{entriesAt};
 ghost use Rattle.tree.specs.Written.{headerWord};
 ghost use Rattle.tree.specs.Generate.{tableWith, surveyOf};
 ghost use Rattle.maker.specs.Answers.{saidMeasure};
-ghost use Rattle.maker.specs.Parts.{WritesTree};
+ghost use Rattle.maker.specs.Parts.{WritesTree, lowestUnmarked, byLeaves, judgedBy};
 
 fn header_word(width: u32, nodes: usize) -> u32
     requires { ⌜ (width < 64) × (nodes < 65536) ⌝ }
@@ -34,6 +35,42 @@ fn clear(out: &mut [u32])
     }
 }
 
+// No entry is marked.
+fn no_marks() -> [u8; 256]
+    ensures { λ r. ⌜ r ≡ replicate 256 0 ⌝ }
+{
+    [0u8; 256]
+}
+
+// Judges a tree without conflict: the lowest entry that no leaf names, which no word selects; else the tree stands.
+fn judge_leaves(marks: &[u8; 256], count: usize, next: usize, tests: u32) -> Judged
+    requires { ⌜ count ≤ 256 ⌝ }
+    ensures { λ r. ⌜ r ≡ byLeaves (lowestUnmarked (now (marks .entry)) count) next tests ⌝ }
+{
+    let mut e = 0;
+    while e < count {
+        if marks[e] == 0 {
+            return Judged::Unreached(e as u32);
+        }
+        e += 1;
+    }
+    Judged::Stands(next, tests)
+}
+
+// Judges a whole tree, from what its maker answers and marks: fit, then ambiguity, then reach.
+fn judge(made: Made, marks: &[u8; 256], count: usize) -> Judged
+    requires { ⌜ count ≤ 256 ⌝ }
+    ensures { λ r. ⌜ r ≡ judgedBy made (lowestUnmarked (now (marks .entry)) count) ⌝ }
+{
+    match made {
+        Made::Full => Judged::NoFit,
+        Made::Wrote(next, first, tests) => match first {
+            First::Clean => judge_leaves(marks, count, next, tests),
+            First::Clash(w) => Judged::Ambiguous(w),
+        },
+    }
+}
+
 // Writes the tree of a table without fault; a refusal leaves the buffer all zero.
 pub fn write_tree(
     table: &[u32],
@@ -46,23 +83,27 @@ pub fn write_tree(
     ensures { λ r. ⌜ WritesTree (entriesAt (now (table .entry)) count 1) width (now (out .entry)) (now (out .exit)) r ⌝ }
 {
     let limit = words::lesser(out.len(), LIMIT);
-    let made = nodes::make_tree(table, places, count, width, 0, 0, out, 1, limit);
-    match made {
-        Made::Full => {
+    let mut marks = no_marks();
+    let made = nodes::make_tree(table, places, count, width, 0, 0, out, 1, limit, &mut marks);
+    let judged = judge(made, &marks, count);
+    match judged {
+        Judged::Stands(next, _) => {
+            out[0] = header_word(width, next - 1);
+            let words = next as u32;
+            Generated::Words(words)
+        }
+        Judged::NoFit => {
             clear(out);
             Generated::NoFit
         }
-        Made::Wrote(next, first, _) => match first {
-            First::Clean => {
-                out[0] = header_word(width, next - 1);
-                let words = next as u32;
-                Generated::Words(words)
-            }
-            First::Clash(w) => {
-                clear(out);
-                Generated::Ambiguous(w)
-            }
-        },
+        Judged::Ambiguous(w) => {
+            clear(out);
+            Generated::Ambiguous(w)
+        }
+        Judged::Unreached(e) => {
+            clear(out);
+            Generated::Unreached(e)
+        }
     }
 }
 
@@ -74,15 +115,27 @@ pub fn survey(table: &[u32], places: &[u32; 256], count: usize, width: u32, room
     let limit = words::lesser(room, LIMIT);
     // nodes have indices from 1 on, so none is kept
     let mut none = [0u32; 1];
-    let made = nodes::make_tree(table, places, count, width, 0, 0, &mut none, 1, limit);
-    match made {
-        Made::Full => Measured::NoFit,
-        Made::Wrote(next, first, tests) => match first {
-            First::Clean => {
-                let nodes = (next - 1) as u32;
-                Measured::Tree(nodes, tests)
-            }
-            First::Clash(w) => Measured::Ambiguous(w),
-        },
+    let mut marks = no_marks();
+    let made = nodes::make_tree(
+        table,
+        places,
+        count,
+        width,
+        0,
+        0,
+        &mut none,
+        1,
+        limit,
+        &mut marks,
+    );
+    let judged = judge(made, &marks, count);
+    match judged {
+        Judged::Stands(next, tests) => {
+            let nodes = (next - 1) as u32;
+            Measured::Tree(nodes, tests)
+        }
+        Judged::NoFit => Measured::NoFit,
+        Judged::Ambiguous(w) => Measured::Ambiguous(w),
+        Judged::Unreached(e) => Measured::Unreached(e),
     }
 }

@@ -15,11 +15,11 @@ use Rattle.table.specs.Table.{Entry, Table, Field, entryNumber, tableOf, fields
 use Rattle.table.specs.Check.{fine, tableCheck, fieldsCheck, readTable}
 use Rattle.table.proofs.Laws.{then-l, then-r, length-entries, first-width, field-some, field-below}
 use Rattle.table.proofs.Views.{entry-field-check}
-use Rattle.choice.specs.Rule.{Choice, names, nothing, ambiguous}
+use Rattle.choice.specs.Rule.{Choice, names, nothing, ambiguous, selects}
 use Rattle.selection.specs.Selection.{select}
 use Rattle.selection.specs.Lookup.{lookedUp, lookOf}
 use Rattle.operands.specs.Fields.{placed, misfit}
-use Rattle.operands.specs.Calls.{selects, encodedAs, encodedFrom, encodeOf}
+use Rattle.operands.specs.Calls.{encodedAs, encodedFrom, encodeOf}
 use Rattle.operands.specs.Answers.{InWord, word-made, misfit-at, madeOr, makes, confirmed, madeFor}
 use Rattle.operands.proofs.Cover.{placed-taken}
 use Rattle.operands.proofs.Inverse.{Good, entry-good, own-lt}

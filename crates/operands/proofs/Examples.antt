@@ -5,9 +5,10 @@ use Prim.Native.Nat.{ℕ}
 use Rattle.words.specs.Outcome.{Outcome, result, refused}
 use Rattle.table.specs.Check.{readTable}
 use Rattle.table.specs.Worked.{worked}
+use Rattle.choice.specs.Rule.{selects}
 use Rattle.selection.proofs.Examples.{looks}
 use Rattle.operands.specs.Fields.{valuesIn, placed, misfit}
-use Rattle.operands.specs.Calls.{Decoded, entry-values, none-selected, decodedAs, decodeOf, bufferAfter, selects, encodedAs, encodedFrom, encodeOf}
+use Rattle.operands.specs.Calls.{Decoded, entry-values, none-selected, decodedAs, decodeOf, bufferAfter, encodedAs, encodedFrom, encodeOf}
 
 -- decoding with every definition open
 pub decodes : List ℕ → ℕ → ℕ → Outcome Decoded
@@ -47,3 +48,19 @@ buffers :
     ≡ (0 ∷ 1 ∷ 2 ∷ 14 ∷ 15 ∷ 16 ∷ 17 ∷ 18 ∷ []) ∷ (11 ∷ 12 ∷ []) ∷ []
 unfolding decodes
 buffers = refl
+
+-- a table whose entry 0 no word selects (width 1: `-`, which a condition takes word 0 from, and 1): decoding and encoding take it, and no
+-- word can be made for entry 0
+abbrev covered : List ℕ
+covered = 0x10020001 ∷ 0x20000111 ∷ 0 ∷ 0 ∷ 0x30000001 ∷ 0x40000000 ∷ 1 ∷ 0 ∷ 0x20010100 ∷ 1 ∷ 1 ∷ []
+
+covered-decodes :
+    decodeOf (readTable covered) 0 8 ∷ decodeOf (readTable covered) 1 8 ∷ [] ≡ result none-selected ∷ result (entry-values 1 []) ∷ []
+unfolding decodes
+covered-decodes = refl
+
+covered-encodes :
+    encodeOf (readTable covered) 1 [] ∷ encodeOf (readTable covered) 0 (0 ∷ []) ∷ encodeOf (readTable covered) 0 (1 ∷ []) ∷ []
+    ≡ result 1 ∷ refused 13 0 0 ∷ refused 13 0 1 ∷ []
+unfolding decodes
+covered-encodes = refl

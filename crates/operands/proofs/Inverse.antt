@@ -21,12 +21,12 @@ use Rattle.words.specs.Outcome.{result}
 use Rattle.table.specs.Check.{Check, fine, fault, tableCheck, entryCheck, patternCheck, reading, readTable}
 use Rattle.table.proofs.Laws.{then-l, then-r, need-true, head-below, length-entries}
 use Rattle.table.proofs.Views.{entry-check, entry-at, entry-field-check}
-use Rattle.choice.proofs.Judging.{choice-names}
+use Rattle.choice.proofs.Judging.{choice-names, selects-names, names-selects}
 use Rattle.selection.specs.Lookup.{lookOf}
-use Rattle.choice.specs.Rule.{Choice, names, nothing, ambiguous, judge, beats, matches, judgeAt}
+use Rattle.choice.specs.Rule.{Choice, names, nothing, ambiguous, selects, judge, beats, matches, judgeAt}
 use Rattle.selection.specs.Selection.{select, claims}
 use Rattle.operands.specs.Fields.{valuesIn, placed, misfit}
-use Rattle.operands.specs.Calls.{Decoded, entry-values, decodedAs, decodeOf, selects, encodedAs, encodedFrom, encodeOf}
+use Rattle.operands.specs.Calls.{Decoded, entry-values, decodedAs, decodeOf, encodedAs, encodedFrom, encodeOf}
 use Rattle.operands.proofs.Cover.{Covered, covered, and-run, taken-placed, Made, placed-taken}
 
 -- what reading has found of an entry
@@ -78,16 +78,6 @@ module _ (es : List Entry) (w e : ℕ) (s : select es w ≡ names e) where
   pub selected-matches : bitAnd w (entryNumber es e .opcode .mask) ≡ entryNumber es e .opcode .value
   unfolding claims matches
   selected-matches = eqb-true _ _ (and-l _ (and-l _ (selected-first .1)))
-
-selects-names : (c : Choice) (e : ℕ) → selects c e ≡ true → c ≡ names e
-unfolding selects
-selects-names (names i) e h = ap names (eqb-true _ _ h)
-selects-names nothing e h = absurd (let z : _≡_ {A = ℕ} 0 1 = cc in omega arith)
-selects-names ambiguous e h = absurd (let z : _≡_ {A = ℕ} 0 1 = cc in omega arith)
-
-names-selects : (e : ℕ) → selects (names e) e ≡ true
-unfolding selects
-names-selects e = eq-eqb e e refl
 
 -- a word of the width with no bit below the own bits lies in them
 own-all : (width size w : ℕ) → size ≤ width → w < 2 ^ width → w % 2 ^ (width - size) ≡ 0 → bitAnd w (ownBits width size) ≡ w
@@ -160,7 +150,7 @@ module _ (t : Table) (e : ℕ) (vs : List ℕ) (w : ℕ) where
 
   pub encodes : Encodes t e vs w → encodeOf (result t) e vs ≡ result w
   unfolding encodeOf encodedFrom encodedAs
-  encodes r = rw (and-i (lt-ltb _ _ (r .entry)) (eq-eqb _ _ (r .count)), r .fits, r .word-made, r .selected, names-selects e)
+  encodes r = rw (and-i (lt-ltb _ _ (r .entry)) (eq-eqb _ _ (r .count)), r .fits, r .word-made, names-selects _ e (r .selected))
 
 -- ---- only a table that reads gives an entry or a word
 read-fine : (v : Check) (t : Table) (w room : ℕ) (d : Decoded) → decodeOf (reading v t) w room ≡ result d → v ≡ fine

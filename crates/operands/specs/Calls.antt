@@ -8,7 +8,7 @@ use lib.ListN.{length, drop}
 use Rattle.words.specs.Tests.{_and_}
 use Rattle.words.specs.Outcome.{Outcome, result, faulty, refused}
 use Rattle.table.specs.Table.{Entry, Table, entryNumber}
-use Rattle.choice.specs.Rule.{Choice, names, nothing, ambiguous}
+use Rattle.choice.specs.Rule.{Choice, names, nothing, ambiguous, selects}
 use Rattle.selection.specs.Selection.{select}
 use Rattle.operands.specs.Fields.{valuesIn, placed, misfit}
 
@@ -39,11 +39,6 @@ bufferAfter (faulty n p) out = out
 bufferAfter (refused n p w) out = out
 
 -- ---- encoding
-
-unfoldable pub selects : Choice → ℕ → Bool
-selects (names i) e = eqb i e
-selects nothing e = false
-selects ambiguous e = false
 
 -- "word made does not select that entry": 13 with "the word"
 unfoldable pub encodedAs : List Entry → ℕ → ℕ → Outcome ℕ

@@ -3,7 +3,8 @@
 --   for all lists of words ws and out; `walker::walk` answers `walkOf words w`, and `walker::walk_bytes` the same of the words of its bytes.
 --     Right     what a walk is when it is right
 --     right-walks     a walk is right whose path is that of a tree without conflict, which tests no bit twice
---     refused-word, refused-exactly, clear-generated     ambiguity, and when a tree is generated
+--     refused-word, refused-exactly     ambiguity
+--     clear-generated, neither-generated     when a tree is generated: it is refused neither by 6 nor by 19
 --     walk-right     the walks of the tree that was written
 use mathlib.Core.Path.{_≡_, refl, sym, ap, _∙_, subst}
 use mathlib.Core.Bool.{Bool, true, false}
@@ -32,10 +33,12 @@ use Rattle.selection.proofs.Formula.{Selects, Unclaimed, Contested, names-exact
 use Rattle.cell.specs.Cell.{start}
 use Rattle.tree.specs.Tree.{Tree, tree, size, asked, named, conflict}
 use Rattle.tree.specs.Written.{written}
-use Rattle.tree.specs.Generate.{fits, judged, generateOf, leftBy, bufferOf}
+use Rattle.tree.specs.Reach.{lowestUnreached}
+use Rattle.tree.specs.Generate.{fits, judged, judgedIn, generateOf, leftBy, bufferOf}
 use Rattle.flat.specs.Walk.{arrives, path, maskOf, walkOf}
 use Rattle.tree.proofs.Theorem.{tree-right, tree-short, tree-once, tree-conflict, tree-sound, conflict-found}
 use Rattle.tree.proofs.Sizes.{length-nodes}
+use Rattle.tree.proofs.Reach.{Reached, none-exactly}
 use Rattle.tree.proofs.Paths.{sound-tree, path-whole, walk-written}
 
 -- a walk by w of these words, a tree of n nodes, is right: it names exactly the selected entry (or nothing), tests no bit twice, and counts truly
@@ -111,20 +114,56 @@ read-sane ws t e = let r = read-is ws t e in subst Sane (r .1) (fine-sane ws (r 
 
 -- ---- what an answer of generating tells of the tree
 
+-- it fits, has no conflict, and every entry is reached
+pub record Clear (fit : Bool) (clash lost : Option ℕ) : Type 0 where
+  pub fits : fit ≡ true
+  pub clean : clash ≡ none
+  pub all : lost ≡ none
+
 module _ {A : Type 0} where
-  pub judged-result : (b : Bool) (o : Option ℕ) (a x : A) → judged b o a ≡ result x → (b ≡ true) × (o ≡ none) × (a ≡ x)
+  pub judged-result : (b : Bool) (o u : Option ℕ) (a x : A) → judged b o u a ≡ result x → Clear b o u × (a ≡ x)
   unfolding judged
-  judged-result false o a x e = absurd (not-refused (sym e))
-  judged-result true (some w) a x e = absurd (not-refused (sym e))
-  judged-result true none a x e = (refl, refl, cc)
+  judged-result false o u a x e = absurd (not-refused (sym e))
+  judged-result true (some w) u a x e = absurd (not-refused (sym e))
+  judged-result true none (some i) a x e = absurd (not-refused (sym e))
+  judged-result true none none a x e = (record { fits = refl; clean = refl; all = refl }, cc)
 
-  judged-clash : (b : Bool) (o : Option ℕ) (a : A) (w : ℕ) → judged b o a ≡ refused 6 0 w → o ≡ some w
+  judged-clash : (b : Bool) (o u : Option ℕ) (a : A) (w : ℕ) → judged b o u a ≡ refused 6 0 w → o ≡ some w
   unfolding judged
-  judged-clash false o a w e = absurd (let z : _≡_ {A = ℕ} 5 6 = cc in omega arith)
-  judged-clash true (some v) a w e = let z : v ≡ w = cc in ap some z
-  judged-clash true none a w e = absurd (not-refused e)
+  judged-clash false o u a w e = absurd (let z : _≡_ {A = ℕ} 5 6 = cc in omega arith)
+  judged-clash true (some v) u a w e = let z : v ≡ w = cc in ap some z
+  judged-clash true none (some i) a w e = absurd (let z : _≡_ {A = ℕ} 19 6 = cc in omega arith)
+  judged-clash true none none a w e = absurd (not-refused e)
 
--- ---- the tree of a table that reads
+  judged-lost : (b : Bool) (o u : Option ℕ) (a : A) (i : ℕ) → judged b o u a ≡ refused 19 i 0 → (b ≡ true) × (o ≡ none) × (u ≡ some i)
+  unfolding judged
+  judged-lost false o u a i e = absurd (let z : _≡_ {A = ℕ} 5 19 = cc in omega arith)
+  judged-lost true (some v) u a i e = absurd (let z : _≡_ {A = ℕ} 6 19 = cc in omega arith)
+  judged-lost true none (some j) a i e = let z : j ≡ i = cc in (refl, refl, ap some z)
+  judged-lost true none none a i e = absurd (not-refused e)
+
+-- ---- the tree of a table that reads, in a room of so many words
+
+module _ (ws : List ℕ) (t : Table) (reads : readTable ws ≡ result t) (room : ℕ) where
+  -- the answer is what is judged of the tree
+  answered : generateOf (readTable ws) room ≡ judgedIn t room (size (tree (t .entries) (t .width)) + 1)
+  unfolding generateOf
+  answered = rw reads
+
+  -- 19 tells that it fits, has no conflict, and that the entry is the lowest that no word selects;
+  pub nineteen-judged : (e : ℕ) → generateOf (readTable ws) room ≡ refused 19 e 0
+      → (fits (tree (t .entries) (t .width)) room ≡ true) × (conflict start (tree (t .entries) (t .width)) ≡ none) × (lowestUnreached (t .entries) (t .width) ≡ some e)
+  nineteen-judged e q = judged-lost _ _ _ _ e (sym answered ∙ q)
+
+  -- and where it fits and no word is ambiguous, this is all that is left to judge
+  pub clear-judged : fits (tree (t .entries) (t .width)) room ≡ true → ((w : ℕ) → w < 2 ^ (t .width) → Contested (t .entries) w → ⊥)
+      → {o : Option ℕ} → lowestUnreached (t .entries) (t .width) ≡ o → generateOf (readTable ws) room ≡ judged true none o (size (tree (t .entries) (t .width)) + 1)
+  clear-judged f clear q =
+      let clean : conflict start (tree (t .entries) (t .width)) ≡ none
+      = options (conflict start (tree (t .entries) (t .width)))
+      (λ c. c)
+      (λ v c. let r = tree-conflict (t .entries) (t .width) (read-sane ws t reads .good) v c in absurd (clear v (r .1) (ambiguous-exactly (t .entries) v .0 (r .0)))) in
+      answered ∙ rw (f, clean, q)
 
 module _ (ws out : List ℕ) (t : Table) (reads : readTable ws ≡ result t) where
   abbrev grown : Tree
@@ -135,11 +174,6 @@ module _ (ws out : List ℕ) (t : Table) (reads : readTable ws ≡ result t) whe
 
   sane : Sane t
   sane = read-sane ws t reads
-
-  -- the answer is what is judged of the tree
-  answered : generateOf (readTable ws) (length out) ≡ judged (fits grown (length out)) (conflict start grown) (size grown + 1)
-  unfolding generateOf
-  answered = rw reads
 
   -- with no conflict its words walk right, whatever words follow them
   walks-right : conflict start grown ≡ none → size grown < 65536 → (rest : List ℕ) (w : ℕ) → w < 2 ^ (t .width)
@@ -155,8 +189,8 @@ module _ (ws out : List ℕ) (t : Table) (reads : readTable ws ≡ result t) whe
       (tree-short (t .entries) (t .width) good w)
 
   module _ (n : ℕ) (generated : generateOf (readTable ws) (length out) ≡ result n) where
-    pub judgement : (fits grown (length out) ≡ true) × (conflict start grown ≡ none) × (size grown + 1 ≡ n)
-    judgement = judged-result (fits grown (length out)) (conflict start grown) (size grown + 1) n (sym answered ∙ generated)
+    pub judgement : Clear (fits grown (length out)) (conflict start grown) (lowestUnreached (t .entries) (t .width)) × (size grown + 1 ≡ n)
+    judgement = judged-result _ _ _ (size grown + 1) n (sym (answered ws t reads (length out)) ∙ generated)
 
     -- "The tree written is as many words, from the buffer's start, as generating returns"
     pub buffer-is : bufferOf (readTable ws) out ≡ flat ++ drop (length flat) out
@@ -166,11 +200,11 @@ module _ (ws out : List ℕ) (t : Table) (reads : readTable ws ≡ result t) whe
     pub words-are : take n (bufferOf (readTable ws) out) ≡ flat ++ []
     unfolding written
     words-are =
-        ap (take n) buffer-is ∙ take-at flat (drop (length flat) out) n (omega (arith, length-nodes grown 1, judgement .2)) ∙ sym (append-nil flat)
+        ap (take n) buffer-is ∙ take-at flat (drop (length flat) out) n (omega (arith, length-nodes grown 1, judgement .1)) ∙ sym (append-nil flat)
 
     written-right : (rest : List ℕ) (w : ℕ) → w < 2 ^ (t .width) → Right (t .entries) (t .width) (size grown) (flat ++ rest) w
     unfolding fits
-    written-right = walks-right (judgement .1) (omega (arith, leb-true (size grown + 1) 16384 (and-r _ (judgement .0))))
+    written-right = walks-right (judgement .0 .clean) (omega (arith, leb-true (size grown + 1) 16384 (and-r _ (judgement .0 .fits))))
 
 -- ---- demand 3: a table that reads without fault, and a buffer
 
@@ -178,7 +212,7 @@ module _ (ws out : List ℕ) (t : Table) (reads : readTable ws ≡ result t) whe
   -- a conflict of the tree is a word of the width that is ambiguous, and there is one where such a word is
   conflict-word : (w : ℕ) → generateOf (readTable ws) (length out) ≡ refused 6 0 w → (w < 2 ^ (t .width)) × (select (t .entries) w ≡ ambiguous)
   conflict-word w e =
-      let r = tree-conflict (t .entries) (t .width) (sane ws out t reads .good) w (judged-clash _ _ _ w (sym (answered ws out t reads) ∙ e)) in
+      let r = tree-conflict (t .entries) (t .width) (sane ws out t reads .good) w (judged-clash _ _ _ _ w (sym (answered ws t reads (length out)) ∙ e)) in
       (r .1, r .0)
 
   word-conflict : fits (tree (t .entries) (t .width)) (length out) ≡ true → (w : ℕ) → select (t .entries) w ≡ ambiguous
@@ -186,7 +220,7 @@ module _ (ws out : List ℕ) (t : Table) (reads : readTable ws ≡ result t) whe
   unfolding judged
   word-conflict f w a =
       let c = conflict-found (tree (t .entries) (t .width)) start w (tree-right (t .entries) (t .width) (sane ws out t reads .good) w ∙ a) in
-      (c .0, answered ws out t reads ∙ rw (c .1, f))
+      (c .0, answered ws t reads (length out) ∙ rw (c .1, f))
 
   -- "Generating refuses as ambiguous exactly when an ambiguous word exists, and gives such a word". A word that it gives is one of the width
   -- that is claimed by an entry, and by none that is more specific than all the others that claim it;
@@ -201,15 +235,23 @@ module _ (ws out : List ℕ) (t : Table) (reads : readTable ws ≡ result t) whe
     λ r. word-conflict f (r .0) (ambiguous-exactly (t .entries) (r .0) .1 (r .2)),
   )
 
-  -- where there is none it is generated, if it fits
+  -- where there is none, and each entry is selected by some word of the width, the tree is generated, if it fits
   pub clear-generated : fits (tree (t .entries) (t .width)) (length out) ≡ true → ((w : ℕ) → w < 2 ^ (t .width) → Contested (t .entries) w → ⊥)
+      → ((e : ℕ) → e < length (t .entries) → Reached (t .entries) (t .width) e)
       → generateOf (readTable ws) (length out) ≡ result (size (tree (t .entries) (t .width)) + 1)
   unfolding judged
-  clear-generated f clear =
-      answered ws out t reads
-      ∙ options (conflict start (tree (t .entries) (t .width)))
-      (λ c. rw (c, f))
-      (λ v c. let r = tree-conflict (t .entries) (t .width) (sane ws out t reads .good) v c in absurd (clear v (r .1) (ambiguous-exactly (t .entries) v .0 (r .0))))
+  clear-generated f clear all = clear-judged ws t reads (length out) f clear (none-exactly (t .entries) (t .width) .1 all)
+
+  -- "every table that is refused neither by 6 nor by 19" has a tree, if that fits
+  pub neither-generated : fits (tree (t .entries) (t .width)) (length out) ≡ true
+      → ((w : ℕ) → generateOf (readTable ws) (length out) ≡ refused 6 0 w → ⊥) → ((e : ℕ) → generateOf (readTable ws) (length out) ≡ refused 19 e 0 → ⊥)
+      → generateOf (readTable ws) (length out) ≡ result (size (tree (t .entries) (t .width)) + 1)
+  unfolding judged
+  neither-generated f six nineteen =
+      let clear : (w : ℕ) → w < 2 ^ (t .width) → Contested (t .entries) w → ⊥ = λ w h c. let r = refused-exactly f .1 (w, h, c) in six (r .0) (r .1) in
+      options (lowestUnreached (t .entries) (t .width))
+      (λ q. clear-judged ws t reads (length out) f clear q)
+      (λ e q. absurd (nineteen e (clear-judged ws t reads (length out) f clear q)))
 
   -- "else every walk of the written tree names exactly the selected entry, tests no bit twice, and counts truly":
   -- in the whole buffer, and in the n words that were answered ("words lent after them change no walk")

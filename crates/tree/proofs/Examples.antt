@@ -11,11 +11,15 @@ use Rattle.table.specs.Table.{Entry, tableOf}
 use Rattle.table.specs.Check.{readTable}
 use Rattle.table.specs.Worked.{printed, worked}
 use Rattle.table.proofs.Examples.{opened}
-use Rattle.choice.specs.Rule.{names, nothing, matches, moreSpecific, judge, judgeAt, beatsAt, givesWay}
+use Rattle.choice.specs.Rule.{names, nothing, selects, matches, moreSpecific, judge, judgeAt, beatsAt, givesWay}
+use Rattle.selection.specs.Selection.{satisfied, claims, select}
+use Rattle.selection.specs.Lookup.{lookOf}
+use Rattle.selection.proofs.Examples.{looks}
 use Rattle.cell.specs.Cell.{start, implies, clashes, holds, fails, openCondition, dead, live, sure, openEntry}
 use Rattle.cell.specs.Step.{votesAt, inCondition, inOpen, wantedAt, testedAt, settledAt, stepAt, step, free}
 use Rattle.tree.specs.Tree.{leaf, test, treeOf, below, tree, size, depth, conflict}
 use Rattle.tree.specs.Written.{headerWord, testWord, leafWord, nodes, written}
+use Rattle.tree.specs.Reach.{reached, lowestUnreached}
 use Rattle.tree.specs.Generate.{tableWith, fits, judged, generateOf, leftBy, bufferOf, surveyOf, measureOf}
 use Rattle.flat.specs.Nodes.{headerRest, headerOf, testNode, namesNode, nothingNode, nodeOf}
 use Rattle.flat.specs.Walk.{Walk, path, maskOf, ones, enters, walkOf}
@@ -28,6 +32,10 @@ grown es width = conflict start (tree es width)
 -- an entry without conditions
 abbrev plain : ℕ → ℕ → Entry
 plain m v = record { label = 0; size = 3; opcode = record { mask = m; value = v }; cycles = 0; fields = []; conditions = [] }
+
+-- `-`: an entry that matches every word of one bit
+abbrev every-word : Entry
+every-word = plain 0 0
 
 -- width 3, 0-- and --0: 7 nodes, word 0 in conflict
 abbrev two : List Entry
@@ -74,7 +82,7 @@ worked-clear = refl
 
 -- what generating answers, with every definition open
 unfoldable pub answered : Outcome ℕ → Outcome ℕ
-unfolding opened grown fits judged generateOf leftBy bufferOf headerWord testWord leafWord nodes written
+unfolding opened grown satisfied claims select selects reached lowestUnreached fits judged generateOf leftBy bufferOf headerWord testWord leafWord nodes written
 answered r = r
 
 -- "For the words 10010002 20050210 00000002 00000002 30000001 it prints": the four words; a fifth in the buffer stays
@@ -151,6 +159,51 @@ sizings =
       two-within = refl;
       three-size = refl;
       no-size = refl;
+    }
+
+-- ---- entries that no word selects
+
+-- width 1: entry 0, `-`, and 1, where its condition takes word 0 away
+abbrev pub one-covers : List ℕ
+one-covers = 0x10020001 ∷ 0x20000111 ∷ 0 ∷ 0 ∷ 0x30000001 ∷ 0x40000000 ∷ 1 ∷ 0 ∷ 0x20010100 ∷ 1 ∷ 1 ∷ []
+
+-- width 1: `-`, 0 and 1
+abbrev two-cover : List ℕ
+two-cover = 0x10030001 ∷ 0x20000110 ∷ 0 ∷ 0 ∷ 0x30000001 ∷ 0x20010100 ∷ 1 ∷ 0 ∷ 0x20020100 ∷ 1 ∷ 1 ∷ []
+
+-- width 1: `-` alone, with a condition that every word satisfies
+abbrev self-excluded : List ℕ
+self-excluded = 0x10010001 ∷ 0x20000111 ∷ 0 ∷ 0 ∷ 0x30000001 ∷ 0x40000000 ∷ 0 ∷ 0 ∷ []
+
+pub record Unreachable : Type 0 where
+  -- 19 with entry 0; sizing says the same
+  pub by-one : generateOf (readTable one-covers) 4 ≡ refused 19 0 0
+  pub by-two : generateOf (readTable two-cover) 4 ≡ refused 19 0 0
+  pub by-itself : generateOf (readTable self-excluded) 4 ≡ refused 19 0 0
+  pub sized : measureOf (readTable two-cover) ≡ refused 19 0 0
+  -- the buffer is all zero; the 3 nodes must fit first
+  pub cleared : bufferOf (readTable two-cover) (9 ∷ 9 ∷ 9 ∷ 9 ∷ 9 ∷ []) ≡ 0 ∷ 0 ∷ 0 ∷ 0 ∷ 0 ∷ []
+  pub short : generateOf (readTable two-cover) 3 ≡ refused 5 0 0
+  -- an ambiguous word comes before an entry that no word selects: width 1, `-` twice, and 0
+  pub ambiguous-first : generateOf (result (tableWith (every-word ∷ every-word ∷ plain 1 0 ∷ []) 1)) 4 ≡ refused 6 0 1
+  -- with 0 and 1 alone every entry is selected
+  pub reached-all : generateOf (result (tableWith (plain 1 0 ∷ plain 1 1 ∷ []) 1)) 4 ≡ result 4
+  -- lookup still takes such a table
+  pub looked-up : lookOf (readTable one-covers) 0 ∷ lookOf (readTable one-covers) 1 ∷ [] ≡ result none ∷ result (some 1) ∷ []
+
+pub unreachable : Unreachable
+unfolding looks sized
+unreachable =
+    record {
+      by-one = refl;
+      by-two = refl;
+      by-itself = refl;
+      sized = refl;
+      cleared = refl;
+      short = refl;
+      ambiguous-first = refl;
+      reached-all = refl;
+      looked-up = refl;
     }
 
 -- ---- walking

@@ -1,7 +1,9 @@
 pub mod Sizes
 pub mod Theorem
 pub mod Depth
+pub mod Reach
 pub mod Examples
 pub mod Paths
 pub mod Demand
 pub mod Sizing
+pub mod Unreached

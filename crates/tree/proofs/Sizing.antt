@@ -25,10 +25,11 @@ use Rattle.cell.specs.Cell.{start}
 use Rattle.flat.specs.Walk.{Walk, walkOf}
 use Rattle.tree.specs.Tree.{Tree, tree, size, depth, conflict}
 use Rattle.tree.specs.Written.{written}
+use Rattle.tree.specs.Reach.{lowestUnreached}
 use Rattle.tree.specs.Generate.{fits, judged, generateOf, bufferOf, Measure, measured, surveyOf, measureOf}
 use Rattle.tree.proofs.Depth.{asked-few, tree-deepest, depth-few}
 use Rattle.tree.proofs.Paths.{sound-tree, walk-written, walk-counts}
-use Rattle.tree.proofs.Demand.{read-sane, judged-result, buffer-is, words-are}
+use Rattle.tree.proofs.Demand.{Clear, read-sane, judged-result, buffer-is, words-are}
 
 -- ---- "The tree limit applies: over it the answer is 5, then 6 as in generating"
 
@@ -38,18 +39,19 @@ counted (result m) = result (m .nodes + 1)
 counted (faulty n p) = faulty n p
 counted (refused n p w) = refused n p w
 
-judged-counted : (g : Tree) (b : Bool) (o : Option ℕ) → judged b o (size g + 1) ≡ counted (judged b o (measured g))
+judged-counted : (g : Tree) (b : Bool) (o u : Option ℕ) → judged b o u (size g + 1) ≡ counted (judged b o u (measured g))
 unfolding judged
-judged-counted g false o = refl
-judged-counted g true (some w) = refl
-judged-counted g true none = refl
+judged-counted g false o u = refl
+judged-counted g true (some w) u = refl
+judged-counted g true none (some e) = refl
+judged-counted g true none none = refl
 
 -- sizing within a room says what generating into as many words says
 pub survey-generates : (r : Outcome Table) (room : ℕ) → generateOf r room ≡ counted (surveyOf r room)
 unfolding generateOf surveyOf
 survey-generates (faulty n p) room = refl
 survey-generates (refused n p w) room = refl
-survey-generates (result t) room = let g : Tree = tree (t .entries) (t .width) in judged-counted g (fits g room) (conflict start g)
+survey-generates (result t) room = let g : Tree = tree (t .entries) (t .width) in judged-counted g (fits g room) (conflict start g) _
 
 -- the same of the tree limit: it answers where generating into 16,384 words does, and is refused exactly as that is, with the same word
 pub sized-as-generated : (ws : List ℕ) → generateOf (readTable ws) 16384 ≡ counted (measureOf (readTable ws))
@@ -79,9 +81,9 @@ pub generated-sized : (ws : List ℕ) (t : Table) → readTable ws ≡ result t 
 unfolding generateOf measureOf surveyOf judged fits
 generated-sized ws t reads room n e =
     let g : Tree = tree (t .entries) (t .width) in
-    let j = judged-result (leb (size g + 1) room and leb (size g + 1) 16384) (conflict start g) (size g + 1) n (rw reads at e) in
-    let within : leb (size g + 1) 16384 and leb (size g + 1) 16384 ≡ true = and-i (and-r _ (j .0)) (and-r _ (j .0)) in
-    (measured g, rw (reads, within, j .1), j .2)
+    let j = judged-result (leb (size g + 1) room and leb (size g + 1) 16384) _ _ (size g + 1) n (rw reads at e) in
+    let within : leb (size g + 1) 16384 and leb (size g + 1) 16384 ≡ true = and-i (and-r _ (j .0 .fits)) (and-r _ (j .0 .fits)) in
+    (measured g, rw (reads, within, j .0 .clean, j .0 .all), j .1)
 
 -- ---- a table that is sized
 
@@ -89,20 +91,20 @@ module _ (ws : List ℕ) (t : Table) (reads : readTable ws ≡ result t) (m : Me
   abbrev grown : Tree
   grown = tree (t .entries) (t .width)
 
-  -- it fits within the limit and has no conflict, and the two numbers are its own
-  of-tree : (fits grown 16384 ≡ true) × (conflict start grown ≡ none) × (measured grown ≡ m)
+  -- it fits within the limit, has no conflict and reaches every entry, and the two numbers are its own
+  of-tree : Clear (fits grown 16384) (conflict start grown) (lowestUnreached (t .entries) (t .width)) × (measured grown ≡ m)
   unfolding measureOf surveyOf
-  of-tree = judged-result (fits grown 16384) (conflict start grown) (measured grown) m (rw reads at sized)
+  of-tree = judged-result _ _ _ (measured grown) m (rw reads at sized)
 
   nodes-are : size grown ≡ m .nodes
-  nodes-are = ap (λ (x : Measure). x .nodes) (of-tree .2)
+  nodes-are = ap (λ (x : Measure). x .nodes) (of-tree .1)
 
   tests-are : depth grown ≡ m .tests
-  tests-are = ap (λ (x : Measure). x .tests) (of-tree .2)
+  tests-are = ap (λ (x : Measure). x .tests) (of-tree .1)
 
   within : size grown + 1 ≤ 16384
   unfolding fits
-  within = leb-true (size grown + 1) 16384 (and-r _ (of-tree .0))
+  within = leb-true (size grown + 1) 16384 (and-r _ (of-tree .0 .fits))
 
   roomy : (room : ℕ) → m .nodes + 1 ≤ room → fits grown room ≡ true
   unfolding fits
@@ -117,7 +119,7 @@ module _ (ws : List ℕ) (t : Table) (reads : readTable ws ≡ result t) (m : Me
   pub lend-exactly : (room : ℕ)
       → (m .nodes + 1 ≤ room → generateOf (readTable ws) room ≡ result (m .nodes + 1)) × (room ≤ m .nodes → generateOf (readTable ws) room ≡ refused 5 0 0)
   unfolding generateOf judged
-  lend-exactly room = (λ h. rw (reads, roomy room h, of-tree .1, nodes-are), λ h. rw (reads, tight room h))
+  lend-exactly room = (λ h. rw (reads, roomy room h, of-tree .0 .clean, of-tree .0 .all, nodes-are), λ h. rw (reads, tight room h))
 
   -- each has its place in 64 bits
   pub small : (m .nodes < 16384) × (m .tests ≤ 32)

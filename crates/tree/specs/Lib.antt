@@ -1,3 +1,4 @@
 pub mod Tree
 pub mod Written
+pub mod Reach
 pub mod Generate

@@ -188,6 +188,17 @@ first-none p (suc n) e i h =
     (λ l. first-none p n k i l))
     (λ j k. absurd (let z : _≡_ {A = ℕ} 0 1 = cc in omega arith))
 
+-- none below the first passes
+pub first-least : (p : ℕ → Bool) (n i : ℕ) → first p n ≡ some i → (j : ℕ) → j < i → p j ≡ false
+unfolding first
+first-least p zero i e j h = absurd (let z : _≡_ {A = ℕ} 0 1 = cc in omega arith)
+first-least p (suc n) i e j h =
+    options (first p n)
+    (λ k. cases (p n)
+    (λ t. let q : n ≡ i = cc in first-none p n k j (rw q h))
+    (λ t. absurd (let z : _≡_ {A = ℕ} 0 1 = cc in omega arith)))
+    (λ x k. let q : x ≡ i = cc in first-least p n i (k ∙ ap some q) j h)
+
 pub first-no : (p : ℕ → Bool) (n : ℕ) → ((i : ℕ) → i < n → p i ≡ false) → first p n ≡ none
 first-no p n f = options (first p n) (λ e. e) (λ j e. let r = first-some p n j e in clash (r .1) (f j (r .0)))
 

@@ -1,3 +1,4 @@
+use native.Mathlib.Omega.{arith}
 use borrow.Author.Needs.{needs}
 use Rattle.kilnumber.proofs.pack_measure.Statement.{statement}
 use Rattle.kilnumber.proofs.pack_measure.Tie as tie
@@ -38,17 +39,29 @@ add-result-2 c = search needs
 enum-known-answer-3 : tie.Need-enum-known-answer-3
 enum-known-answer-3 c = search needs
 
+mul-result-4 : tie.Need-mul-result-4
+mul-result-4 c = search needs
+
 cast-result-4 : tie.Need-cast-result-4
 cast-result-4 c = search needs
 
-mul-result-4 : tie.Need-mul-result-4
-mul-result-4 c = search needs
+add-result-3 : tie.Need-add-result-3
+add-result-3 c = search needs
+
+enum-known-answer-4 : tie.Need-enum-known-answer-4
+enum-known-answer-4 c = search needs
 
 cast-result-5 : tie.Need-cast-result-5
 cast-result-5 c = search needs
 
-add-result-3 : tie.Need-add-result-3
-add-result-3 c = search needs
+mul-result-5 : tie.Need-mul-result-5
+mul-result-5 c = search needs
+
+cast-result-6 : tie.Need-cast-result-6
+cast-result-6 c = search needs
+
+add-result-4 : tie.Need-add-result-4
+add-result-4 c = search needs
 
 returns : tie.Need-returns
 returns c = rw (c .before .answer .given .1)
@@ -60,7 +73,10 @@ returns-3 : tie.Need-returns-3
 returns-3 c = rw (c .before .answer2 .given .1)
 
 returns-4 : tie.Need-returns-4
-returns-4 c = rw (c .before .answer3 .given .1)
+returns-4 c = rw (c .before .answer3 .given .1) (omega arith)
+
+returns-5 : tie.Need-returns-5
+returns-5 c = rw (c .before .answer4 .given .1)
 
 pub pack-measure-spec : {M : Type 1} → statement M
 pack-measure-spec =
@@ -78,11 +94,16 @@ pack-measure-spec =
     cast-result-3
     add-result-2
     enum-known-answer-3
-    cast-result-4
     mul-result-4
-    cast-result-5
+    cast-result-4
     add-result-3
+    enum-known-answer-4
+    cast-result-5
+    mul-result-5
+    cast-result-6
+    add-result-4
     returns
     returns-2
     returns-3
-    returns-4)
+    returns-4
+    returns-5)

@@ -1,4 +1,4 @@
-use Rattle.checker.specs.Checker.{isStepOne}
+use Rattle.choice.specs.Rule.{selects}
 use borrow.Author.Needs.{needs}
 use Rattle.checker.proofs.nodes.is_named.Statement.{statement}
 use Rattle.checker.proofs.nodes.is_named.Tie as tie
@@ -19,17 +19,17 @@ enum-told-2 c = search needs
 
 -- src/checker.rt:18:1
 returns : tie.Need-returns
-unfolding isStepOne
+unfolding selects
 returns c = rw (c .before .v .given .1)
 
 -- src/checker.rt:18:1
 returns-2 : tie.Need-returns-2
-unfolding isStepOne
+unfolding selects
 returns-2 c = rw (c .enum-told .given .1)
 
 -- src/checker.rt:18:1
 returns-3 : tie.Need-returns-3
-unfolding isStepOne
+unfolding selects
 returns-3 c = rw (c .enum-told2 .given .1)
 
 pub is-named-spec : {M : Type 1} → statement M

@@ -29,6 +29,12 @@ enum-known-self-2 c = search needs
 of-requires-4 : tie.Need-of-requires-4
 of-requires-4 c κs = search needs
 
+enum-known-self-3 : tie.Need-enum-known-self-3
+enum-known-self-3 c = search needs
+
+of-requires-5 : tie.Need-of-requires-5
+of-requires-5 c κs = search needs
+
 returns : tie.Need-returns
 returns c = c .of .ensures ∙ ap (λ a. causeOf (saidMeasure a)) (sym (c .before .enum-told .given .1))
 
@@ -40,6 +46,9 @@ returns-3 c = c .of3 .ensures ∙ ap (λ a. causeOf (saidMeasure a)) (sym (c .be
 
 returns-4 : tie.Need-returns-4
 returns-4 c = c .of4 .ensures ∙ ap (λ a. causeOf (saidMeasure a)) (sym (c .before .before .self2 .given .1))
+
+returns-5 : tie.Need-returns-5
+returns-5 c = c .of5 .ensures ∙ ap (λ a. causeOf (saidMeasure a)) (sym (c .before .before .self3 .given .1))
 
 pub cause-spec : {M : Type 1} → statement M
 cause-spec =
@@ -53,7 +62,10 @@ cause-spec =
     of-requires-3
     enum-known-self-2
     of-requires-4
+    enum-known-self-3
+    of-requires-5
     returns
     returns-2
     returns-3
-    returns-4)
+    returns-4
+    returns-5)

@@ -1,83 +1,116 @@
+use mathlib.Core.Path.{sym, ap, _∙_}
 use native.Mathlib.Omega.{arith}
-use Rattle.maker.proofs.Generating.{full-surveyed, clash-surveyed, clean-surveyed}
+use Rattle.table.proofs.Views.{ready-few}
+use Rattle.tree.specs.Generate.{Measure}
+use Rattle.maker.specs.Parts.{saidOf}
+use Rattle.maker.proofs.Generating.{judged-surveys, stands}
 use borrow.Author.Needs.{needs}
 use Rattle.maker.proofs.whole.survey.Statement.{statement}
 use Rattle.maker.proofs.whole.survey.Tie as tie
-use Rattle.maker.proofs.whole.survey.Reads as reads
-use Rattle.maker.proofs.whole.survey.Lts as lts
-use Rattle.maker.proofs.nodes.make_tree.Reads as make-tree-reads
-use Rattle.words.proofs.lesser.Reads as lesser-reads
 
 lesser-requires : tie.Need-lesser-requires
 lesser-requires c κs = search needs
 
+no-marks-requires : tie.Need-no-marks-requires
+no-marks-requires c κs = search needs
+
 slice-aggregate-make-tree : tie.Need-slice-aggregate-make-tree
 slice-aggregate-make-tree c = search needs
+
+slice-aggregate-make-tree-2 : tie.Need-slice-aggregate-make-tree-2
+slice-aggregate-make-tree-2 c = search needs
 
 make-tree-requires : tie.Need-make-tree-requires
 make-tree-requires c κs = search needs
 
-enum-told : tie.Need-enum-told
-enum-told c = search needs
+judge-requires : tie.Need-judge-requires
+judge-requires c κs = ready-few _ _ _ _ (c .before .before .before .before .before .before .before .before .before .pre)
 
-enum-known-made : tie.Need-enum-known-made
-enum-known-made c = search needs
-
-enum-told-2 : tie.Need-enum-told-2
-enum-told-2 c = search needs
+enum-known-judged : tie.Need-enum-known-judged
+enum-known-judged c = search needs
 
 sub-nodes : tie.Need-sub-nodes
 sub-nodes c =
-    let k = c .before .before .before in
-    let m = k .before .before .before in
-    let n = m .make-tree .ensures .wrote _ _ _ (k .made .given .1) .within in
+    let j = c .before .before .before in
+    let m = j .before .before .before .before in
+    let k = m .before .before .before in
+    let l = k .before in
+    let s = l .before .before in
+    let n = stands _ _ _ _ (s .pre) _ (l .lesser .ensures) (k .no-marks .ensures) (m .make-tree .ensures) (j .judge .ensures) _ _ (c .before .judged .given .1) .within in
     omega arith
 
 cast-nodes : tie.Need-cast-nodes
 cast-nodes c =
-    let k = c .before .before .before in
-    let m = k .before .before .before in
-    let l = m .before .before in
-    let n = m .make-tree .ensures .wrote _ _ _ (k .made .given .1) .within in
+    let j = c .before .before .before in
+    let m = j .before .before .before .before in
+    let k = m .before .before .before in
+    let l = k .before in
+    let s = l .before .before in
+    let n = stands _ _ _ _ (s .pre) _ (l .lesser .ensures) (k .no-marks .ensures) (m .make-tree .ensures) (j .judge .ensures) _ _ (c .before .judged .given .1) .within in
     omega (arith, l .lesser .ensures)
 
-enum-known-first : tie.Need-enum-known-first
-enum-known-first c = search needs
+enum-told : tie.Need-enum-told
+enum-told c = search needs
+
+enum-known-judged-2 : tie.Need-enum-known-judged-2
+enum-known-judged-2 c = search needs
+
+enum-known-judged-3 : tie.Need-enum-known-judged-3
+enum-known-judged-3 c = search needs
 
 returns : tie.Need-returns
 returns c =
-    let m = c .before .before .before in
-    let l = m .before .before in
-    full-surveyed _ _ _ (l .lesser .ensures) (m .make-tree .ensures) (c .enum-told .given .1)
+    let j = c .before .before .before in
+    let m = j .before .before .before .before in
+    let k = m .before .before .before in
+    let l = k .before in
+    let s = l .before .before in
+    rw (c .before .judged .given .1) at (judged-surveys _ _ _ _ (s .pre) _ (l .lesser .ensures) (k .no-marks .ensures) (m .make-tree .ensures) (j .judge .ensures))
 
 returns-2 : tie.Need-returns-2
 returns-2 c =
-    let k = c .before .before .before in
-    let m = k .before .before .before in
-    let l = m .before .before in
-    clean-surveyed _ _ _ (l .lesser .ensures) (m .make-tree .ensures) (k .made .given .1) (c .enum-told2 .given .1)
+    let j = c .before .before in
+    let m = j .before .before .before .before in
+    let k = m .before .before .before in
+    let l = k .before in
+    let s = l .before .before in
+    rw (c .enum-told .given .1) at (judged-surveys _ _ _ _ (s .pre) _ (l .lesser .ensures) (k .no-marks .ensures) (m .make-tree .ensures) (j .judge .ensures))
 
 returns-3 : tie.Need-returns-3
 returns-3 c =
-    let f = c .before in
-    let k = f .before .before .before in
-    let m = k .before .before .before in
-    let l = m .before .before in
-    clash-surveyed _ _ _ (l .lesser .ensures) (m .make-tree .ensures) (k .made .given .1) _ (f .first .given .1)
+    let j = c .before .before .before in
+    let m = j .before .before .before .before in
+    let k = m .before .before .before in
+    let l = k .before in
+    let s = l .before .before in
+    rw (c .before .judged2 .given .1) at (judged-surveys _ _ _ _ (s .pre) _ (l .lesser .ensures) (k .no-marks .ensures) (m .make-tree .ensures) (j .judge .ensures))
+
+returns-4 : tie.Need-returns-4
+returns-4 c =
+    let j = c .before .before .before in
+    let m = j .before .before .before .before in
+    let k = m .before .before .before in
+    let l = k .before in
+    let s = l .before .before in
+    rw (c .before .judged3 .given .1) at (judged-surveys _ _ _ _ (s .pre) _ (l .lesser .ensures) (k .no-marks .ensures) (m .make-tree .ensures) (j .judge .ensures))
 
 pub survey-spec : {M : Type 1} → statement M
 survey-spec =
     tie.close
     (tie.spec
     lesser-requires
+    no-marks-requires
     slice-aggregate-make-tree
+    slice-aggregate-make-tree-2
     make-tree-requires
-    enum-told
-    enum-known-made
-    enum-told-2
+    judge-requires
+    enum-known-judged
     sub-nodes
     cast-nodes
-    enum-known-first
+    enum-told
+    enum-known-judged-2
+    enum-known-judged-3
     returns
     returns-2
-    returns-3)
+    returns-3
+    returns-4)
