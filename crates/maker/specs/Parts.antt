@@ -1,5 +1,5 @@
 -- What the makers' parts say, for the proofs alone.
-use Prim.Native.Nat.{ℕ, _+_, _≤_, _<_}
+use Prim.Native.Nat.{ℕ, _+_, _-_, _≤_, _<_, min}
 use mathlib.Core.Path.{_≡_}
 use mathlib.Core.List.{List}
 use mathlib.Core.Option.{Option, none, some}
@@ -11,9 +11,9 @@ use Rattle.words.specs.Outcome.{Outcome, result, refused}
 use Rattle.table.specs.Table.{Entry}
 use Rattle.choice.specs.Rule.{Choice, names, nothing, ambiguous}
 use Rattle.cell.specs.Cell.{Cell, zeroSide, oneSide}
-use Rattle.tree.specs.Tree.{Tree, leaf, test, below, size, depth, conflict}
+use Rattle.tree.specs.Tree.{Tree, leaf, test, below, tree, size, depth, conflict}
 use Rattle.tree.specs.Written.{nodes}
-use Rattle.tree.specs.Generate.{tableWith, generateOf, bufferOf}
+use Rattle.tree.specs.Generate.{tableWith, generateOf, bufferOf, Measure, surveyOf}
 use Rattle.maker.specs.Answers.{saidGenerate}
 use Rattle.maker.specs.declared.First.{First}
 use Rattle.maker.specs.declared.First.the-variants.{Clean, Clash}
@@ -84,9 +84,15 @@ judgedBy Full o = NoFit
 judgedBy (Wrote next (Clash w) tests) o = Ambiguous w
 judgedBy (Wrote next Clean tests) o = byLeaves o next tests
 
--- what a call says of it that answers `say next tests` where the tree stands
-abbrev pub saidOf : {A : Type 0} → (ℕ → ℕ → A) → Judged → Outcome A
-saidOf say (Stands next tests) = result (say next tests)
-saidOf say NoFit = refused 5 0 0
-saidOf say (Ambiguous w) = refused 6 0 w
-saidOf say (Unreached e) = refused 19 e 0
+-- what sizing says of it
+abbrev pub saidJudged : Judged → Outcome Measure
+saidJudged (Stands next tests) = result (record { nodes = next - 1; tests = tests })
+saidJudged NoFit = refused 5 0 0
+saidJudged (Ambiguous w) = refused 6 0 w
+saidJudged (Unreached e) = refused 19 e 0
+
+-- the tree of entries was made below the limit, and is judged as sizing in such a room judges it; where it stands, it was written
+pub record Judging (r : Judged) (before after : List ℕ) (es : List Entry) (width limit : ℕ) : Type 0 where
+  pub said : (room : ℕ) → limit ≡ min room 16384 → saidJudged r ≡ surveyOf (result (tableWith es width)) room
+  pub stands : (next tests : ℕ) → r ≡ Stands next tests
+      → (next ≡ 1 + size (tree es width)) × (next ≤ limit) × (after ≡ sets before 1 (nodes 1 (tree es width)))

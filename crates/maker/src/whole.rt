@@ -15,7 +15,7 @@ ghost use Rattle.table.specs.Table.{entriesAt};
 ghost use Rattle.tree.specs.Written.{headerWord};
 ghost use Rattle.tree.specs.Generate.{tableWith, surveyOf};
 ghost use Rattle.maker.specs.Answers.{saidMeasure};
-ghost use Rattle.maker.specs.Parts.{WritesTree, lowestUnmarked, byLeaves, judgedBy};
+ghost use Rattle.maker.specs.Parts.{WritesTree, lowestUnmarked, byLeaves, judgedBy, Judging};
 
 fn header_word(width: u32, nodes: usize) -> u32
     requires { ⌜ (width < 64) × (nodes < 65536) ⌝ }
@@ -71,6 +71,23 @@ fn judge(made: Made, marks: &[u8; 256], count: usize) -> Judged
     }
 }
 
+// Makes the whole tree of a table without fault, below a limit, and judges it.
+fn make_whole(
+    table: &[u32],
+    places: &[u32; 256],
+    count: usize,
+    width: u32,
+    out: &mut [u32],
+    limit: usize,
+) -> Judged
+    requires { ⌜ (limit ≤ 16384) × Ready (now table) (now places) width count ⌝ }
+    ensures { λ r. ⌜ Judging r (now (out .entry)) (now (out .exit)) (entriesAt (now (table .entry)) count 1) width limit ⌝ }
+{
+    let mut marks = no_marks();
+    let made = nodes::make_tree(table, places, count, width, 0, 0, out, 1, limit, &mut marks);
+    judge(made, &marks, count)
+}
+
 // Writes the tree of a table without fault; a refusal leaves the buffer all zero.
 pub fn write_tree(
     table: &[u32],
@@ -83,9 +100,7 @@ pub fn write_tree(
     ensures { λ r. ⌜ WritesTree (entriesAt (now (table .entry)) count 1) width (now (out .entry)) (now (out .exit)) r ⌝ }
 {
     let limit = words::lesser(out.len(), LIMIT);
-    let mut marks = no_marks();
-    let made = nodes::make_tree(table, places, count, width, 0, 0, out, 1, limit, &mut marks);
-    let judged = judge(made, &marks, count);
+    let judged = make_whole(table, places, count, width, out, limit);
     match judged {
         Judged::Stands(next, _) => {
             out[0] = header_word(width, next - 1);
@@ -115,20 +130,7 @@ pub fn survey(table: &[u32], places: &[u32; 256], count: usize, width: u32, room
     let limit = words::lesser(room, LIMIT);
     // nodes have indices from 1 on, so none is kept
     let mut none = [0u32; 1];
-    let mut marks = no_marks();
-    let made = nodes::make_tree(
-        table,
-        places,
-        count,
-        width,
-        0,
-        0,
-        &mut none,
-        1,
-        limit,
-        &mut marks,
-    );
-    let judged = judge(made, &marks, count);
+    let judged = make_whole(table, places, count, width, &mut none, limit);
     match judged {
         Judged::Stands(next, tests) => {
             let nodes = (next - 1) as u32;

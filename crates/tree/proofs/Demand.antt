@@ -124,21 +124,24 @@ module _ {A : Type 0} where
   pub judged-result : (b : Bool) (o u : Option ℕ) (a x : A) → judged b o u a ≡ result x → Clear b o u × (a ≡ x)
   unfolding judged
   judged-result false o u a x e = absurd (not-refused (sym e))
-  judged-result true (some w) u a x e = absurd (not-refused (sym e))
+  judged-result true (some w) (some i) a x e = absurd (not-refused (sym e))
+  judged-result true (some w) none a x e = absurd (not-refused (sym e))
   judged-result true none (some i) a x e = absurd (not-refused (sym e))
   judged-result true none none a x e = (record { fits = refl; clean = refl; all = refl }, cc)
 
   judged-clash : (b : Bool) (o u : Option ℕ) (a : A) (w : ℕ) → judged b o u a ≡ refused 6 0 w → o ≡ some w
   unfolding judged
   judged-clash false o u a w e = absurd (let z : _≡_ {A = ℕ} 5 6 = cc in omega arith)
-  judged-clash true (some v) u a w e = let z : v ≡ w = cc in ap some z
+  judged-clash true (some v) (some i) a w e = let z : v ≡ w = cc in ap some z
+  judged-clash true (some v) none a w e = let z : v ≡ w = cc in ap some z
   judged-clash true none (some i) a w e = absurd (let z : _≡_ {A = ℕ} 19 6 = cc in omega arith)
   judged-clash true none none a w e = absurd (not-refused e)
 
   judged-lost : (b : Bool) (o u : Option ℕ) (a : A) (i : ℕ) → judged b o u a ≡ refused 19 i 0 → (b ≡ true) × (o ≡ none) × (u ≡ some i)
   unfolding judged
   judged-lost false o u a i e = absurd (let z : _≡_ {A = ℕ} 5 19 = cc in omega arith)
-  judged-lost true (some v) u a i e = absurd (let z : _≡_ {A = ℕ} 6 19 = cc in omega arith)
+  judged-lost true (some v) (some j) a i e = absurd (let z : _≡_ {A = ℕ} 6 19 = cc in omega arith)
+  judged-lost true (some v) none a i e = absurd (let z : _≡_ {A = ℕ} 6 19 = cc in omega arith)
   judged-lost true none (some j) a i e = let z : j ≡ i = cc in (refl, refl, ap some z)
   judged-lost true none none a i e = absurd (not-refused e)
 

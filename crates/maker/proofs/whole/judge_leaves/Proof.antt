@@ -1,9 +1,10 @@
 use Prim.Native.Nat.{ℕ, _-_, _≤_, _<_}
 use native.Mathlib.Omega.{arith}
-use mathlib.Core.Path.{_≡_}
+use mathlib.Core.Path.{_≡_, sym, ap}
 use mathlib.Core.Bool.{false}
 use lib.Dec.{eqb}
 use lib.ListN.{getD}
+use denote.Ref.{now}
 use borrow.Author.Count.{below-more}
 use borrow.Author.Needs.{needs}
 use borrow.Author.Tests.{eq-eqb, ne-eqb}
@@ -32,7 +33,9 @@ returns : tie.Need-returns Inv-loop μ-loop
 unfolding byLeaves
 returns c =
     let l = c .before .before .before in
-    rw (first-found _ (l .before .args .count) (l .loop .e) (omega arith) (eq-eqb _ 0 (c .if1 .taken)) (l .loop .inv .1))
+    let a = l .before .args in
+    let unmarked : getD (now (a .marks)) (l .loop .e) 0 ≡ 0 = omega (arith, c .if1 .taken) in
+    sym (ap (λ o. byLeaves o (a .next) (a .tests)) (first-found _ (a .count) (l .loop .e) (omega arith) (eq-eqb _ 0 unmarked) (l .loop .inv .1)))
 
 add-e : tie.Need-add-e Inv-loop μ-loop
 add-e c = search needs
