@@ -66,14 +66,11 @@ fn put(out: &mut [u32], at: usize, word: u32)
     }
 }
 
-// Marks an entry, if there is a place for its mark.
-fn mark(marks: &mut [u8], e: u8)
+// Marks an entry.
+fn mark(marks: &mut [u8; 256], e: u8)
     ensures { λ _. ⌜ now (marks .exit) ≡ set (now (marks .entry)) e 1 ⌝ }
 {
-    let at = e as usize;
-    if at < marks.len() {
-        marks[at] = 1;
-    }
+    marks[e as usize] = 1;
 }
 
 // Writes a leaf at an index.
@@ -96,7 +93,7 @@ pub fn make_tree(
     out: &mut [u32],
     at: usize,
     limit: usize,
-    marks: &mut [u8],
+    marks: &mut [u8; 256],
 ) -> Made
     requires { ⌜ (limit ≤ 16384) × Ready (now table) (now places) width count ⌝ }
     ensures { λ r. ⌜ Making r (now (out .entry)) (now (out .exit)) (now (marks .entry)) (now (marks .exit)) (below (entriesAt (now (table .entry)) count 1) width (cellOf fixed bits)) (cellOf fixed bits) at limit ⌝ }
@@ -142,7 +139,7 @@ fn make_node(
     out: &mut [u32],
     at: usize,
     limit: usize,
-    marks: &mut [u8],
+    marks: &mut [u8; 256],
 ) -> Made
     requires { ⌜ (limit ≤ 16384) × (at < limit) × (b < width) × (bit fixed b ≡ false) × Ready (now table) (now places) width count ⌝ }
     ensures { λ r. ⌜ Making r (now (out .entry)) (now (out .exit)) (now (marks .entry)) (now (marks .exit)) (splitOf (entriesAt (now (table .entry)) count 1) width (cellOf fixed bits) b) (cellOf fixed bits) at limit ⌝ }

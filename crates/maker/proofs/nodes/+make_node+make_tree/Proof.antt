@@ -59,7 +59,7 @@ make-tree-claims t = (decide-reads.Asked, decide-reads.Learnt, mark-reads.Asked,
 
 make-node-shl-tested : (t : ℕ) → make-node-lts.Need-shl-tested (make-node-claims t) (make-node-at t) make-node.Post
 make-node-shl-tested t c =
-    let s = c .before .before .before in
+    let s = c .before .before in
     omega (arith, s .pre .1 .2, ready-wide _ _ _ _ (s .pre .1 .4))
 
 make-node-add-make-tree : (t : ℕ) → make-node-lts.Need-add-make-tree (make-node-claims t) (make-node-at t) make-node.Post
@@ -67,7 +67,7 @@ make-node-add-make-tree t c = search needs
 
 make-node-make-tree-requires : (t : ℕ) → make-node-lts.Need-make-tree-requires (make-node-claims t) (make-node-at t) make-node.Post
 make-node-make-tree-requires t c κs =
-    let s = c .before .before .before .before .before in
+    let s = c .before .before .before .before in
     (omega (arith, s .pre .0, fewer (cell (s .args .fixed) (s .args .bits)) (s .args .b) (s .args .width) _ (s .pre .1 .2) (s .pre .1 .3) (bit-set _ _ _ _ (s .pre .1 .4) (s .args .fixed) (s .args .b) (s .pre .1 .2))), (s .pre .1 .0, s .pre .1 .4))
 
 make-node-enum-told : (t : ℕ) → make-node-lts.Need-enum-told (make-node-claims t) (make-node-at t) make-node.Post
@@ -79,8 +79,8 @@ make-node-enum-known-zero t c = search needs
 make-node-test-word-requires : (t : ℕ) → make-node-lts.Need-test-word-requires (make-node-claims t) (make-node-at t) make-node.Post
 make-node-test-word-requires t c κs =
     let z = c .before .before in
-    let m = z .before .before .before .before .before .before in
-    let s = m .before .before .before .before .before .before in
+    let m = z .before .before .before .before in
+    let s = m .before .before .before .before .before in
     let n = m .make-tree .ensures .wrote _ _ _ (z .zero .given .1) .within in
     (omega (arith, s .pre .1 .2, ready-wide _ _ _ _ (s .pre .1 .4)), omega (arith, s .pre .1 .0))
 
@@ -89,7 +89,7 @@ make-node-put-requires t c κs = search needs
 
 make-node-make-tree-requires-2 : (t : ℕ) → make-node-lts.Need-make-tree-requires-2 (make-node-claims t) (make-node-at t) make-node.Post
 make-node-make-tree-requires-2 t c κs =
-    let s = c .before .before .before .before .before .before .before .before .before .before .before .before .before .before .before .before .before .before .before .before in
+    let s = c .before .before .before .before .before .before .before .before .before .before .before .before .before .before .before .before .before in
     (omega (arith, s .pre .0, fewer (cell (s .args .fixed) (s .args .bits)) (s .args .b) (s .args .width) _ (s .pre .1 .2) (s .pre .1 .3) (bit-set _ _ _ _ (s .pre .1 .4) (s .args .fixed) (s .args .b) (s .pre .1 .2))), (s .pre .1 .0, s .pre .1 .4))
 
 make-node-enum-told-2 : (t : ℕ) → make-node-lts.Need-enum-told-2 (make-node-claims t) (make-node-at t) make-node.Post
@@ -104,10 +104,10 @@ make-node-or-first-requires t c κs = search needs
 make-node-deeper-requires : (t : ℕ) → make-node-lts.Need-deeper-requires (make-node-claims t) (make-node-at t) make-node.Post
 make-node-deeper-requires t c κs =
     let o = c .before .before in
-    let m2 = o .before .before .before .before .before .before in
+    let m2 = o .before .before .before .before in
     let z = m2 .before .before .before .before .before .before .before .before .before in
-    let m = z .before .before .before .before .before .before in
-    let s = m .before .before .before .before .before .before in
+    let m = z .before .before .before .before in
+    let s = m .before .before .before .before .before in
     let x = m .make-tree .ensures .wrote _ _ _ (z .zero .given .1) .within in
     let y = m2 .make-tree2 .ensures .wrote _ _ _ (o .one .given .1) .within in
     (omega (arith, s .pre .1 .0), omega (arith, s .pre .1 .0))
@@ -115,47 +115,38 @@ make-node-deeper-requires t c κs =
 make-node-same-length : (t : ℕ) → make-node-lts.Need-same-length (make-node-claims t) (make-node-at t) make-node.Post
 make-node-same-length t c = search needs
 
+make-node-returns : (t : ℕ) → make-node-lts.Need-returns (make-node-claims t) (make-node-at t) make-node.Post
+make-node-returns t c =
+    let m = c .before .before .before .before in
+    let s = m .before .before .before .before .before in
+    zero-is-full _ _ _ _ _ (bit-set _ _ _ _ (s .pre .1 .4) (s .args .fixed) (s .args .b) (s .pre .1 .2)) (m .make-tree .ensures) (c .enum-told .given .1)
+
 make-node-same-length-2 : (t : ℕ) → make-node-lts.Need-same-length-2 (make-node-claims t) (make-node-at t) make-node.Post
 make-node-same-length-2 t c = search needs
 
-make-node-returns : (t : ℕ) → make-node-lts.Need-returns (make-node-claims t) (make-node-at t) make-node.Post
-make-node-returns t c =
-    let m = c .before .before .before .before .before .before in
-    let s = m .before .before .before .before .before .before in
-    zero-is-full _ _ _ _ _ (bit-set _ _ _ _ (s .pre .1 .4) (s .args .fixed) (s .args .b) (s .pre .1 .2)) (m .make-tree .ensures) (c .enum-told .given .1)
-
-make-node-same-length-3 : (t : ℕ) → make-node-lts.Need-same-length-3 (make-node-claims t) (make-node-at t) make-node.Post
-make-node-same-length-3 t c = search needs
-
-make-node-same-length-4 : (t : ℕ) → make-node-lts.Need-same-length-4 (make-node-claims t) (make-node-at t) make-node.Post
-make-node-same-length-4 t c = search needs
-
 make-node-returns-2 : (t : ℕ) → make-node-lts.Need-returns-2 (make-node-claims t) (make-node-at t) make-node.Post
 make-node-returns-2 t c =
-    let m2 = c .before .before .before .before .before .before in
+    let m2 = c .before .before .before .before in
     let p = m2 .before .before .before .before .before in
     let x = p .before in
     let z = x .before .before .before in
-    let m = z .before .before .before .before .before .before in
-    let s = m .before .before .before .before .before .before in
+    let m = z .before .before .before .before in
+    let s = m .before .before .before .before .before in
     one-is-full _ _ _ _ _ (bit-set _ _ _ _ (s .pre .1 .4) (s .args .fixed) (s .args .b) (s .pre .1 .2)) (m .make-tree .ensures) (bit-set _ _ _ _ (s .pre .1 .4) (s .args .bits) (s .args .b) (s .pre .1 .2)) (x .test-word .ensures) (z .zero .given .1) (p .put .ensures) (m2 .make-tree2 .ensures) (c .enum-told2 .given .1)
 
-make-node-same-length-5 : (t : ℕ) → make-node-lts.Need-same-length-5 (make-node-claims t) (make-node-at t) make-node.Post
-make-node-same-length-5 t c = search needs
-
-make-node-same-length-6 : (t : ℕ) → make-node-lts.Need-same-length-6 (make-node-claims t) (make-node-at t) make-node.Post
-make-node-same-length-6 t c = search needs
+make-node-same-length-3 : (t : ℕ) → make-node-lts.Need-same-length-3 (make-node-claims t) (make-node-at t) make-node.Post
+make-node-same-length-3 t c = search needs
 
 make-node-returns-3 : (t : ℕ) → make-node-lts.Need-returns-3 (make-node-claims t) (make-node-at t) make-node.Post
 make-node-returns-3 t c =
     let f = c .before in
     let o = f .before .before in
-    let m2 = o .before .before .before .before .before .before in
+    let m2 = o .before .before .before .before in
     let p = m2 .before .before .before .before .before in
     let x = p .before in
     let z = x .before .before .before in
-    let m = z .before .before .before .before .before .before in
-    let s = m .before .before .before .before .before .before in
+    let m = z .before .before .before .before in
+    let s = m .before .before .before .before .before in
     both-written _ _ _ _ _ (bit-set _ _ _ _ (s .pre .1 .4) (s .args .fixed) (s .args .b) (s .pre .1 .2)) (m .make-tree .ensures) (bit-set _ _ _ _ (s .pre .1 .4) (s .args .bits) (s .args .b) (s .pre .1 .2)) (x .test-word .ensures) (z .zero .given .1) (p .put .ensures) (m2 .make-tree2 .ensures) (o .one .given .1) (f .or-first .ensures) (c .deeper .ensures)
 
 make-tree-returns : (t : ℕ) → make-tree-lts.Need-returns (make-tree-claims t) (make-tree-at t) make-tree.Post
@@ -202,30 +193,27 @@ make-tree-make-node-requires t c κs =
     let k = c .before .before .before in
     let d = k .before .before in
     let e = d .before in
-    let s = e .before .before .before .before in
+    let s = e .before .before .before in
     let b = test-bounds _ _ _ _ (s .pre .1 .1) _ _ (d .decide .ensures) _ (k .decision2 .given .1) in
     (omega (arith, s .pre .0), (s .pre .1 .0, e .if1 .left, b .0, b .1, s .pre .1 .1))
 
 make-tree-same-length : (t : ℕ) → make-tree-lts.Need-same-length (make-tree-claims t) (make-tree-at t) make-tree.Post
 make-tree-same-length t c = search needs
 
-make-tree-same-length-2 : (t : ℕ) → make-tree-lts.Need-same-length-2 (make-tree-claims t) (make-tree-at t) make-tree.Post
-make-tree-same-length-2 t c = search needs
-
 make-tree-returns-2 : (t : ℕ) → make-tree-lts.Need-returns-2 (make-tree-claims t) (make-tree-at t) make-tree.Post
 make-tree-returns-2 t c =
     let l = c .before .before in
     let n = l .before in
-    let m = n .before .before .before .before in
+    let m = n .before .before in
     let k = m .before .before .before in
     let d = k .before .before in
     let e = d .before in
-    let s = e .before .before .before .before in
+    let s = e .before .before .before in
     let q = below-names _ _ _ _ (s .pre .1 .1) _ _ (d .decide .ensures) _ (k .decision .given .1) in
     leaf-made (names _) (e .if1 .left) q (l .make-leaf .ensures) (n .names-word .ensures) refl (m .mark .ensures)
 
-make-tree-same-length-3 : (t : ℕ) → make-tree-lts.Need-same-length-3 (make-tree-claims t) (make-tree-at t) make-tree.Post
-make-tree-same-length-3 t c = search needs
+make-tree-same-length-2 : (t : ℕ) → make-tree-lts.Need-same-length-2 (make-tree-claims t) (make-tree-at t) make-tree.Post
+make-tree-same-length-2 t c = search needs
 
 make-tree-returns-3 : (t : ℕ) → make-tree-lts.Need-returns-3 (make-tree-claims t) (make-tree-at t) make-tree.Post
 make-tree-returns-3 t c =
@@ -234,12 +222,12 @@ make-tree-returns-3 t c =
     let k = n .before .before in
     let d = k .before .before in
     let e = d .before in
-    let s = e .before .before .before .before in
+    let s = e .before .before .before in
     let q = below-nothing _ _ _ _ (s .pre .1 .1) _ _ (d .decide .ensures) (k .enum-told .given .1) in
     leaf-made nothing (e .if1 .left) q (l .make-leaf2 .ensures) (n .nothing-word .ensures) refl refl
 
-make-tree-same-length-4 : (t : ℕ) → make-tree-lts.Need-same-length-4 (make-tree-claims t) (make-tree-at t) make-tree.Post
-make-tree-same-length-4 t c = search needs
+make-tree-same-length-3 : (t : ℕ) → make-tree-lts.Need-same-length-3 (make-tree-claims t) (make-tree-at t) make-tree.Post
+make-tree-same-length-3 t c = search needs
 
 make-tree-returns-4 : (t : ℕ) → make-tree-lts.Need-returns-4 (make-tree-claims t) (make-tree-at t) make-tree.Post
 make-tree-returns-4 t c =
@@ -248,22 +236,19 @@ make-tree-returns-4 t c =
     let k = n .before .before in
     let d = k .before .before in
     let e = d .before in
-    let s = e .before .before .before .before in
+    let s = e .before .before .before in
     let q = below-conflict _ _ _ _ (s .pre .1 .1) _ _ (d .decide .ensures) (k .enum-told2 .given .1) in
     leaf-made ambiguous (e .if1 .left) q (l .make-leaf3 .ensures) (n .nothing-word2 .ensures ∙ conflict-word) refl refl
 
-make-tree-same-length-5 : (t : ℕ) → make-tree-lts.Need-same-length-5 (make-tree-claims t) (make-tree-at t) make-tree.Post
-make-tree-same-length-5 t c = search needs
-
-make-tree-same-length-6 : (t : ℕ) → make-tree-lts.Need-same-length-6 (make-tree-claims t) (make-tree-at t) make-tree.Post
-make-tree-same-length-6 t c = search needs
+make-tree-same-length-4 : (t : ℕ) → make-tree-lts.Need-same-length-4 (make-tree-claims t) (make-tree-at t) make-tree.Post
+make-tree-same-length-4 t c = search needs
 
 make-tree-returns-5 : (t : ℕ) → make-tree-lts.Need-returns-5 (make-tree-claims t) (make-tree-at t) make-tree.Post
 make-tree-returns-5 t c =
-    let m = c .before .before .before .before in
+    let m = c .before .before in
     let k = m .before .before .before .before in
     let d = k .before .before in
-    let s = d .before .before .before .before .before in
+    let s = d .before .before .before .before in
     rw (below-test _ _ _ _ (s .pre .1 .1) _ _ (d .decide .ensures) _ (k .decision2 .given .1)) (m .make-node .ensures)
 
 pub +make-node+make-tree-spec : {M : Type 1} → statement M
@@ -283,13 +268,10 @@ pub +make-node+make-tree-spec : {M : Type 1} → statement M
     (make-node-or-first-requires t)
     (make-node-deeper-requires t)
     (make-node-same-length t)
-    (make-node-same-length-2 t)
     (make-node-returns t)
-    (make-node-same-length-3 t)
-    (make-node-same-length-4 t)
+    (make-node-same-length-2 t)
     (make-node-returns-2 t)
-    (make-node-same-length-5 t)
-    (make-node-same-length-6 t)
+    (make-node-same-length-3 t)
     (make-node-returns-3 t))
     λ t. make-tree-lts.spec (make-tree-claims t)
     (make-tree-at t)
@@ -309,12 +291,10 @@ pub +make-node+make-tree-spec : {M : Type 1} → statement M
     (make-tree-enum-known-decision-2 t)
     (make-tree-make-node-requires t)
     (make-tree-same-length t)
-    (make-tree-same-length-2 t)
     (make-tree-returns-2 t)
-    (make-tree-same-length-3 t)
+    (make-tree-same-length-2 t)
     (make-tree-returns-3 t)
-    (make-tree-same-length-4 t)
+    (make-tree-same-length-3 t)
     (make-tree-returns-4 t)
-    (make-tree-same-length-5 t)
-    (make-tree-same-length-6 t)
+    (make-tree-same-length-4 t)
     (make-tree-returns-5 t)

@@ -7,21 +7,18 @@ use Rattle.maker.proofs.whole.make_whole.Tie as tie
 no-marks-requires : tie.Need-no-marks-requires
 no-marks-requires c κs = search needs
 
-slice-aggregate-make-tree : tie.Need-slice-aggregate-make-tree
-slice-aggregate-make-tree c = search needs
-
 make-tree-requires : tie.Need-make-tree-requires
 make-tree-requires c κs = search needs
 
 judge-requires : tie.Need-judge-requires
-judge-requires c κs = ready-few _ _ _ _ (c .before .before .before .before .before .before .before .before .before .before .pre .1)
+judge-requires c κs = ready-few _ _ _ _ (c .before .before .before .before .before .before .before .before .before .pre .1)
 
 same-length : tie.Need-same-length
 same-length c = search needs
 
 returns : tie.Need-returns
 returns c =
-    let m = c .before .before .before .before .before in
+    let m = c .before .before .before .before in
     let k = m .before .before .before in
     made-judging _ _ _ _ (k .before .before .before .pre .1) (k .no-marks .ensures) (m .make-tree .ensures) (c .judge .ensures)
 
@@ -30,7 +27,6 @@ make-whole-spec =
     tie.close
     (tie.spec
     no-marks-requires
-    slice-aggregate-make-tree
     make-tree-requires
     judge-requires
     same-length
