@@ -59,7 +59,7 @@ no-is = refl
 fault-is : packedCheck (faulty 2 4) ≡ 0x200000004
 fault-is = refl
 
--- a size: 27 nodes and 6 tests; over the tree limit (5); an ambiguous word (6)
+-- a size: 27 nodes and 6 tests; over the tree limit (5); an ambiguous word (6); entry 255 that no word selects (19)
 size-is : packedMeasure (result (record { nodes = 27; tests = 6 })) ≡ 0x6001b
 size-is = refl
 
@@ -68,6 +68,9 @@ large-is = refl
 
 clash-is : packedMeasure (refused 6 0 0x80000001) ≡ 0x680000001
 clash-is = refl
+
+unreached-is : packedMeasure (refused 19 255 0) ≡ 0x13000000ff
+unreached-is = refl
 
 -- an entry's cycles: 65,535; no such entry (11)
 cost-is : packedNumber (result 65535) ≡ 0xffff

@@ -58,7 +58,7 @@ fn judge_leaves(marks: &[u8; 256], count: usize, next: usize, tests: u32) -> Jud
 }
 
 // Judges a whole tree, from what its maker answers and marks: fit, then ambiguity, then reach.
-fn judge(made: Made, marks: &[u8; 256], count: usize) -> Judged
+fn judge_tree(made: Made, marks: &[u8; 256], count: usize) -> Judged
     requires { ⌜ count ≤ 256 ⌝ }
     ensures { λ r. ⌜ r ≡ judgedBy made (lowestUnmarked (now (marks .entry)) count) ⌝ }
 {
@@ -85,7 +85,7 @@ fn make_whole(
 {
     let mut marks = no_marks();
     let made = nodes::make_tree(table, places, count, width, 0, 0, out, 1, limit, &mut marks);
-    judge(made, &marks, count)
+    judge_tree(made, &marks, count)
 }
 
 // Writes the tree of a table without fault; a refusal leaves the buffer all zero.

@@ -10,8 +10,8 @@ no-marks-requires c κs = search needs
 make-tree-requires : tie.Need-make-tree-requires
 make-tree-requires c κs = search needs
 
-judge-requires : tie.Need-judge-requires
-judge-requires c κs = ready-few _ _ _ _ (c .before .before .before .before .before .before .before .before .before .pre .1)
+judge-tree-requires : tie.Need-judge-tree-requires
+judge-tree-requires c κs = ready-few _ _ _ _ (c .before .before .before .before .before .before .before .before .before .pre .1)
 
 same-length : tie.Need-same-length
 same-length c = search needs
@@ -20,7 +20,7 @@ returns : tie.Need-returns
 returns c =
     let m = c .before .before .before .before in
     let k = m .before .before .before in
-    made-judging _ _ _ _ (k .before .before .before .pre .1) (k .no-marks .ensures) (m .make-tree .ensures) (c .judge .ensures)
+    made-judging _ _ _ _ (k .before .before .before .pre .1) (k .no-marks .ensures) (m .make-tree .ensures) (c .judge-tree .ensures)
 
 pub make-whole-spec : {M : Type 1} → statement M
 make-whole-spec =
@@ -28,6 +28,6 @@ make-whole-spec =
     (tie.spec
     no-marks-requires
     make-tree-requires
-    judge-requires
+    judge-tree-requires
     same-length
     returns)

@@ -1,8 +1,8 @@
 use mathlib.Core.Path.{_∙_}
 use Rattle.maker.specs.Parts.{judgedBy}
 use borrow.Author.Needs.{needs}
-use Rattle.maker.proofs.whole.judge.Statement.{statement}
-use Rattle.maker.proofs.whole.judge.Tie as tie
+use Rattle.maker.proofs.whole.judge_tree.Statement.{statement}
+use Rattle.maker.proofs.whole.judge_tree.Tie as tie
 
 enum-told : tie.Need-enum-told
 enum-told c = search needs
@@ -37,8 +37,8 @@ returns-3 c =
     let m = e .before .before .before in
     rw (m .made .given .1, e .first .given .1)
 
-pub judge-spec : {M : Type 1} → statement M
-judge-spec =
+pub judge-tree-spec : {M : Type 1} → statement M
+judge-tree-spec =
     tie.close
     (tie.spec
     enum-told
