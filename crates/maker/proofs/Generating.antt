@@ -20,7 +20,7 @@ use Rattle.table.proofs.Laws.{length-entries}
 use Rattle.table.proofs.Views.{ready-few, ready-read}
 use Rattle.cell.proofs.Deciding.{ready-good}
 use Rattle.cell.specs.Cell.{start}
-use Rattle.tree.specs.Tree.{Tree, tree, below, size, depth, conflict}
+use Rattle.tree.specs.Tree.{Tree, tree, below, size, conflict}
 use Rattle.tree.specs.Written.{headerWord, nodes, written}
 use Rattle.tree.specs.Generate.{tableWith, fits, judged, generateOf, leftBy, bufferOf, surveyOf, measureOf}
 use Rattle.tree.specs.Reach.{lowestUnreached}
@@ -28,7 +28,6 @@ use Rattle.tree.proofs.Sizes.{length-nodes}
 use Rattle.tree.proofs.Sizing.{counted, survey-generates}
 use Rattle.maker.specs.Answers.{saidGenerate, Generates}
 use Rattle.maker.specs.Parts.{WritesTree, firstOf, Making, lowestUnmarked, byLeaves, judgedBy, saidJudged, Judging}
-use Rattle.maker.specs.declared.First.{First}
 use Rattle.maker.specs.declared.First.the-variants.{Clean, Clash}
 use Rattle.maker.specs.declared.Made.{Made}
 use Rattle.maker.specs.declared.Made.the-variants.{Full, Wrote}
@@ -47,7 +46,7 @@ first-clash : (o : Option ℕ) (w : ℕ) → Clash w ≡ firstOf o → o ≡ som
 first-clash none w e = absurd (let z : _≡_ {A = ℕ} 0 1 = cc in omega arith)
 first-clash (some v) w e = let q : v ≡ w = cc in ap some q
 
--- ---- what is judged of the whole tree, whatever the call answers of it
+-- ---- what is judged of the whole tree
 
 module _ (es : List Entry) (width room : ℕ) (good : goodTable width es ≡ true) (few : length es ≤ 256) {limit : ℕ} (is : limit ≡ min room 16384) where
   abbrev whole : Tree

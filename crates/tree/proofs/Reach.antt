@@ -2,10 +2,9 @@
 --     Reached, Lowest     an entry that some word selects; the lowest that none does
 --     leaf-exactly     a leaf names an entry exactly when some word of the width selects it
 --     reached-exactly, none-exactly, lowest-exactly     what the definitions say
-use Prim.Native.Nat.{ℕ, zero, suc, _^_, _<_}
+use Prim.Native.Nat.{ℕ, _^_, _<_}
 use native.Mathlib.Nat.{le-refl}
-use native.Mathlib.Omega.{arith}
-use mathlib.Core.Path.{_≡_, refl, sym, ap, _∙_}
+use mathlib.Core.Path.{_≡_, refl, _∙_}
 use mathlib.Core.Logic.{_↔_}
 use mathlib.Core.Bool.{true, false, not}
 use mathlib.Core.List.{List}
@@ -14,10 +13,10 @@ use lib.Bits.{or-lt}
 use lib.ListN.{length}
 use lib.Pow.{pow-lt, pow-pos}
 use Rattle.words.specs.Words.{bit}
-use Rattle.words.proofs.Logic.{cases, clash, isTrue, isFalse, not-t, not-f, not-it, not-if, or-il, or-ir, or-e, exists-at, exists-make, first-some, first-none, first-no, first-found, first-least}
+use Rattle.words.proofs.Logic.{cases, clash, isFalse, not-t, not-f, not-it, not-if, or-il, or-ir, or-e, exists-at, exists-make, first-some, first-none, first-no, first-found, first-least}
 use Rattle.table.specs.Lawful.{goodTable}
 use Rattle.table.specs.Table.{Entry}
-use Rattle.choice.specs.Rule.{names, selects}
+use Rattle.choice.specs.Rule.{selects}
 use Rattle.choice.proofs.Judging.{selects-names, names-selects}
 use Rattle.selection.specs.Selection.{select}
 use Rattle.selection.proofs.Formula.{Selects, names-exactly}

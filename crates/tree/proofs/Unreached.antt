@@ -11,7 +11,6 @@ use mathlib.Core.Path.{_≡_}
 use mathlib.Core.Bool.{true}
 use mathlib.Core.Logic.{_↔_}
 use mathlib.Core.List.{List}
-use mathlib.Core.Option.{none, some}
 use lib.ListN.{length, replicate}
 use Rattle.words.specs.Outcome.{result, refused}
 use Rattle.words.proofs.Logic.{options}

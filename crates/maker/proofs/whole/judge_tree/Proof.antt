@@ -1,4 +1,3 @@
-use mathlib.Core.Path.{_∙_}
 use Rattle.maker.specs.Parts.{judgedBy}
 use borrow.Author.Needs.{needs}
 use Rattle.maker.proofs.whole.judge_tree.Statement.{statement}
