@@ -2,7 +2,8 @@
  * mktree in plain C: the same algorithm, the same input, the same lines. A measure for how long generating takes.
  *
  * Usage: generate < table. As the proved program it looks at all entries in each cell, counts the votes of each bit, and writes a
- * test once its zero side is made. Sentences in quotes are document 01's; what is said of cycles is document 02's.
+ * test once its zero side is made. Sentences in quotes are document 01's; what is said of cycles and of entries that are not reached
+ * is document 02's.
  *
  *   gcc -std=c11 -O2 bench/generate.c -o generate
  *
@@ -31,6 +32,7 @@ static size_t table_words;
 static uint32_t width, entries, cycles_words; /* the last: 1 in a table of kind 6, 0 in one of kind 1 */
 static int clash_seen;
 static uint32_t clash_word;
+static uint8_t named[MOST_ENTRIES]; /* 1 for each entry that a leaf names */
 
 static void print_refusal(uint32_t number, size_t place, uint32_t word) {
     printf("refused %u %zu %08x\n", (unsigned)number, place, (unsigned)word);
@@ -237,6 +239,7 @@ static size_t make(uint32_t fixed, uint32_t bits, size_t at) {
         clash_word = bits;
     }
     if (leaf != 0) {
+        if (leaf >> 28 == 9) named[leaf & 0xff] = 1;
         tree[at] = leaf;
         return at + 1;
     }
@@ -245,6 +248,13 @@ static size_t make(uint32_t fixed, uint32_t bits, size_t at) {
     if (one_side == 0) return 0;
     tree[at] = 8u << 28 | bit << 23 | (uint32_t)one_side;
     return make(fixed, bits | 1u << bit, one_side);
+}
+
+/* A leaf names an entry exactly when some word selects it. The lowest entry that none selects, or the number of entries. */
+static uint32_t lowest_unreached(void) {
+    uint32_t entry = 0;
+    while (entry < entries && named[entry]) entry++;
+    return entry;
 }
 
 /* ------------------------------------------------------------------------- lines */
@@ -281,7 +291,9 @@ int main(void) {
     read_table();
     size_t end = make(0, 0, 1);
     if (end == 0) print_refusal(5, 0, 0);
-    if (clash_seen) print_refusal(6, 0, clash_word);
+    uint32_t unreached = WRONG == 5 ? entries : lowest_unreached();                             /* 5: 19 is not looked for */
+    if (clash_seen && (WRONG != 6 || unreached == entries)) print_refusal(6, 0, clash_word);    /* 6: 19 before 6 */
+    if (unreached < entries) print_refusal(19, WRONG == 7 ? entries : unreached, 0);            /* 7: another place */
     tree[0] = 7u << 28 | width << 16 | (uint32_t)(end - 1);
     print_tree(end);
     return 0;

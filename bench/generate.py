@@ -6,7 +6,8 @@ twin with cycles, and the size must be that of the tree, or the same refusal; wi
 without entries is subtracted: starting a process, and printing what it prints anyway. With `instructions` valgrind counts them instead, which
 no load of the machine changes.
 
-With MKTREE_BEFORE=path in the environment an older mktree is run too, on the tables of kind 1, in the same turns.
+With MKTREE_BEFORE=path in the environment an older mktree is run too, on the tables of kind 1, in the same turns. It must print the same,
+but of a table that is refused because an entry is not reached (19): there it may print a tree, as before there was that number.
 """
 
 import functools
@@ -43,6 +44,8 @@ def cases():
     yield "worked", examples.WORKED
     yield "256 words of 8 bits", eight_bits()
     yield "a deep tie", tables.lay_out(tables.full_tree_plan(random.Random(1), 32, 13)).words
+    # Neither entry is reached, but each leaf is a conflict: ambiguity is decided before that.
+    yield "a deep tie twice, ambiguous", tables.lay_out(tables.full_tree_plan(random.Random(1), 32, 13, twice=True)).words
     yield "0-- and -00, ambiguous", examples.MORE_MASK_BITS
     yield "printed", examples.PRINTED + []
     yield "every kind", examples.EVERY_KIND
@@ -124,10 +127,19 @@ def require_same_lines(case, file, programs):
     return text
 
 
+def require_older_lines(case, older, text):
+    """The older mktree prints the same; or a tree, where the table is refused with 19 now."""
+    data = case.table.read_bytes()
+    seen = mktree.text_of(older, data)
+    if not text.startswith("refused 19 ") or seen.startswith("refused "):
+        mktree.stop_at_difference(f"{case.name}, {older}", data, text, seen)
+
+
 def compare(programs, made):
-    older = [programs.before] if programs.before else []
     for case in made:
-        text = require_same_lines(case, case.table, [programs.mktree, programs.in_c, *older])
+        text = require_same_lines(case, case.table, [programs.mktree, programs.in_c])
+        if programs.before:
+            require_older_lines(case, programs.before, text)
         roomy, twin = (require_same_lines(case, file, [programs.mktree, programs.in_c]) for file in (case.roomy, case.twin))
         mktree.stop_at_difference(f"{case.name}, with cycles and without", case.twin.read_bytes(), roomy, twin)
         size = running.output_of(programs.probe, case.sizing.read_bytes()).decode()
@@ -162,7 +174,7 @@ def tell(names, made, pairs):
     for case, (one, two) in zip(made, pairs, strict=True):
         ratio, said = ratio_text(one, two, starts) if case is not made[0] else (None, "")
         worst = max(worst, ratio or 0)
-        print(f"{case.name:36} {names[0]:6} {one.text()}   {names[1]:6} {two.text()}   {said}")
+        print(f"{case.name:52} {names[0]:6} {one.text()}   {names[1]:6} {two.text()}   {said}")
     together = [sum(pair[side].less(starts[side]) for pair in pairs) for side in (0, 1)]
     print(f"largest ratio, {names[0]} to {names[1]}: {worst:.2f}; of all tables together: {together[0] / together[1]:.3f}")
 
@@ -184,7 +196,7 @@ def count_instructions(programs, made):
         for case in made[1:]:
             one, two = (instructions_of(*run) - start for run, start in zip(comparisons(programs, case)[names], starts))
             together = [together[0] + one, together[1] + two]
-            print(f"{case.name:36} {names[0]:6} {one / 1e6:9.3f}   {names[1]:6} {two / 1e6:9.3f}   ratio {one / two:7.4f}", flush=True)
+            print(f"{case.name:52} {names[0]:6} {one / 1e6:9.3f}   {names[1]:6} {two / 1e6:9.3f}   ratio {one / two:7.4f}", flush=True)
         print(f"all tables together, {names[0]} to {names[1]}: {together[0] / together[1]:.4f}")
 
 

@@ -1,7 +1,8 @@
 """How the time of generating and of lookup grows with a table's entries, conditions and tree nodes.
 
 Usage: growth.py mktree probe directory. mktree and probe run as processes; from each time that of a run with nothing to do is
-subtracted. One of the three sizes grows at a time and the others stay. The number of nodes is read from what mktree prints.
+subtracted. One of the three sizes grows at a time and the others stay. The number of nodes is read from what mktree prints; it
+must be the one that the table is made for. Each entry of these tables is selected by some word, else there would be no tree.
 """
 
 import random
@@ -11,7 +12,7 @@ from pathlib import Path
 sys.path.insert(0, str(Path(__file__).resolve().parent.parent / "tests"))
 
 import mktree
-from hardest import deciding_entry, many_sure, never_decided
+from hardest import corner_for, deciding_entry, kept_out, many_sure_reached, matching_all, never_decided, own_in_turn
 from probe import MOST_BYTES, pack, request_of
 from programs import load, take_turns
 from second import tables
@@ -25,37 +26,49 @@ NO_ENTRIES = [0x10000020]
 
 
 def alike_plan(rng, entries, conditions, depth):
-    """All but two entries match every word, none more specific than another; they share the conditions, each with eight
-    unmatching patterns and open in every cell. The last two decide after `depth` tests: 2^(depth+1) - 1 nodes."""
-    plain = [EntryPlan(0, WIDTH, 0, 0, [(0, WIDTH)]) for _ in range(entries - 2)]
+    """All but two entries match every word, none more specific than another. Each has a short condition, which keeps it out of what
+    is another's in the corner where they are reached (tests/hardest.py); outside it fails. They share the other conditions, each with
+    eight unmatching patterns and open in every cell outside. The last two entries decide after `depth` tests: 2^(depth+1) - 1 nodes."""
+    corner = corner_for(depth, (entries - 1) // 2)
+    plain = matching_all(entries - 2)
+    for number, entry in enumerate(plain):
+        entry.conditions.append(kept_out(corner, own_in_turn(corner, number)))
     for turn in range(conditions):
-        plain[turn % len(plain)].conditions.append(never_decided(rng, depth))
-    return TablePlan(WIDTH, plain + [deciding_entry(rng, 0, depth), deciding_entry(rng, 1, depth)])
+        number = turn % len(plain)
+        plain[number].conditions.append(never_decided(rng, depth, own_in_turn(corner, number)))
+    return TablePlan(WIDTH, plain + [deciding_entry(rng, high_bit, depth, corner) for high_bit in (0, 1)])
 
 
 def nested_plan(rng, entries, depth):
     """tests/hardest.py's table of sure entries, with fewer of them: those of one half are more specific than those of the
     other, so that each is compared with many."""
-    plan = many_sure(rng, depth)
+    plan = many_sure_reached(rng, depth)
     plan.entries = plan.entries[:(entries - 4) // 2] + plan.entries[128:128 + (entries - 4) // 4] \
         + plan.entries[190:190 + (entries - 4) // 4] + plan.entries[-4:]
     return plan
 
 
 def generating_series(rng):
-    """(name of the series, size, plan)"""
+    """(name of the series, size, tests on each path, plan)"""
     for entries in (4, 8, 16, 32, 64, 128, 256):
-        yield "entries, alike", entries, alike_plan(rng, entries, 0, 10)
+        yield "entries, alike", entries, 10, alike_plan(rng, entries, 0, 10)
     for entries in (20, 36, 68, 132, 252):
-        yield "entries, nested", entries, nested_plan(rng, entries, 10)
-    for conditions in (0, 32, 64, 128, 256, 512):
-        yield "conditions", conditions, alike_plan(rng, 66, conditions, 10)
-    for depth in (6, 7, 8, 9, 10, 11, 12, 13):
-        yield "nodes", 2 ** (depth + 1) - 1, alike_plan(rng, 66, 128, depth)
+        yield "entries, nested", entries, 10, nested_plan(rng, entries, 10)
+    # An entry has eight conditions at most, one of them the short one.
+    for conditions in (0, 32, 64, 128, 256, 448):
+        yield "conditions", conditions, 10, alike_plan(rng, 66, conditions, 10)
+    # With fewer than seven tests there are too few leaves to name 66 entries.
+    for depth in (7, 8, 9, 10, 11, 12, 13):
+        yield "nodes", 2 ** (depth + 1) - 1, depth, alike_plan(rng, 66, 64, depth)
 
 
-def nodes_printed(text):
-    return int(text.split("\n")[0].split(" ")[1], 16) & 0xFFFF
+def nodes_printed(text, depth):
+    """They must be those of a full tree."""
+    words = text.split("\n")[0].split(" ")
+    nodes = 0 if words[0] == "refused" else int(words[1], 16) & 0xFFFF
+    if nodes != 2 ** (depth + 1) - 1:
+        sys.exit(f"growth: {depth} tests on each path, but mktree's first line is {' '.join(words)!r}")
+    return nodes
 
 
 def measure_generating(program, directory, rng):
@@ -63,7 +76,7 @@ def measure_generating(program, directory, rng):
     empty = directory / "growth.empty"
     empty.write_bytes(pack(NO_ENTRIES))
     runs, laid = [(program, empty)], []
-    for number, (_, _, plan) in enumerate(series):
+    for number, (_, _, _, plan) in enumerate(series):
         file = directory / f"growth.{number}"
         laid.append(tables.lay_out(plan).words)
         file.write_bytes(pack(laid[-1]))
@@ -71,8 +84,8 @@ def measure_generating(program, directory, rng):
     print(f"mktree: load {load()}; {REPEATS} turns; ms by the clock: best, median, worst; then ms of the processor, best, less the start")
     start, *times = take_turns(runs, REPEATS)
     print(f"no entries: {start.text()}")
-    for (name, size, plan), words, taken, (_, file) in zip(series, laid, times, runs[1:], strict=True):
-        nodes = nodes_printed(mktree.text_of(program, file.read_bytes()))
+    for (name, size, depth, plan), words, taken, (_, file) in zip(series, laid, times, runs[1:], strict=True):
+        nodes = nodes_printed(mktree.text_of(program, file.read_bytes()), depth)
         conditions = sum(len(entry.conditions) for entry in plan.entries)
         print(f"{name:14} {size:6}: {len(plan.entries):3} entries, {conditions:3} conditions, {nodes:5} nodes, {len(words):5} words: "
               f"{taken.text()}; {taken.less(start):8.2f}; {1e6 * taken.less(start) / nodes:8.0f} ns a node")

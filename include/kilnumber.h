@@ -45,7 +45,8 @@ enum kilnumber_refusal {
     KILNUMBER_NO_IMAGE_TABLE = 15, /* the table's width is not 32, or a length is not 16 or 32 */
     KILNUMBER_BAD_IMAGE = 16,      /* the image has an odd number of bytes, or too many */
     KILNUMBER_NO_ROOM = 17,        /* more items than `items` has room for; it holds the earlier ones */
-    KILNUMBER_NO_TEXT_ROOM = 18    /* the text is longer than the room for it, and `text` is as it was */
+    KILNUMBER_NO_TEXT_ROOM = 18,   /* the text is longer than the room for it, and `text` is as it was */
+    KILNUMBER_UNREACHED = 19       /* some entry of the table is selected by no word; kilnumber_list_place has the lowest */
 };
 
 /* The number of the refusal in any call's 64 bits, 0 without one. The other accessors say something only where they say so. */
@@ -78,7 +79,8 @@ uint32_t kilnumber_mask(const uint8_t *tree, size_t tree_bytes, uint32_t word);
 /* ------------------------------------------------------------------------------------------------------------- the size */
 
 /* The size of a table's tree, without memory for it. Lend kilnumber_nodes + 1 words for the tree that generating writes. No walk of
- * that tree tests more than kilnumber_tests says, and some word of the width tests that many. Refusals: 1 to 4, 5, 6. */
+ * that tree tests more than kilnumber_tests says, and some word of the width tests that many. As in generating, each entry must be
+ * selected by some word; the other calls do not ask for that. Refusals: 1 to 4, 5, 6, 19. */
 uint64_t kilnumber_measure(const uint32_t *table, size_t table_words);
 
 /* Without a refusal: the number of nodes. (The greatest number of tests is kilnumber_tests.) */
@@ -105,7 +107,8 @@ uint64_t kilnumber_list(const uint32_t *table, size_t table_words, const uint32_
 static inline uint32_t kilnumber_items(uint64_t result) { return (uint32_t)(result & 0xffffffff); }
 
 /* The place in any result but a walk's, which has kilnumber_place: after 1 to 4 the index of the table's word at fault (0 of a field's
- * word by itself), after KILNUMBER_NO_ROOM the halfword address of the first item left out. */
+ * word by itself), after KILNUMBER_NO_ROOM the halfword address of the first item left out, after KILNUMBER_UNREACHED the number of
+ * the entry. */
 static inline uint32_t kilnumber_list_place(uint64_t result) { return (uint32_t)(result & 0xffffffff); }
 
 /* An item: its kind, the entry where it is an instruction, and its halfword address; twice that is its offset in bytes. */

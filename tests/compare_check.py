@@ -1,6 +1,6 @@
 """Compares request 7 of probe (check) with the second implementation, line for line. It checks a part of the trees again with twins of
 the tables. It also walks the trees that are accepted, where a walk's count is the number of ones in its mask, and some that test a
-bit twice.
+bit twice. Each table is sized too: the checker judges the trees of those that are refused with 19 as it does others.
 
 Usage: compare_check.py [path of probe]. Exits with status 1 at the first difference.
 """
@@ -232,9 +232,23 @@ def compare_by_hand(path):
         probe.stop_at_difference(name, question, expected, seen)
 
 
-def count(tally, name, words, tree, seen):
+def size_tables(path, group, refused, tally):
+    """Sizes the tables when they come by for the first time; those that are refused with 19 are added to `refused`."""
+    questions = [("measure", words) for name, words, _ in group if name in ("generated", "ambiguous")]
+    for question, seen in zip(questions, probe.ask(path, questions), strict=True):
+        probe.stop_at_difference("size", question, line_of(question), seen)
+        number = seen.split(" ")[1]
+        tally[f"sized {number}"] += 1
+        if number == "19":
+            refused.add(tuple(question[1]))
+
+
+def count(tally, name, words, tree, seen, refused):
     number = seen.split(" ")[1]
     outcome = "yes" if number == "0" else number
+    if tuple(words) in refused:
+        tally[f"of a table refused with 19: {outcome}"] += 1
+        tally[f"of a table refused with 19, {name}: {outcome}"] += 1
     tally["checks"] += 1
     tally[outcome] += 1
     tally[f"{name}: {outcome}"] += 1
@@ -247,13 +261,14 @@ def count(tally, name, words, tree, seen):
 
 
 def compare(path, rng, tally):
-    cases, walk_rng, twins = all_cases(rng), random.Random(WALK_SEED), Twins(SEED)
+    cases, walk_rng, twins, refused = all_cases(rng), random.Random(WALK_SEED), Twins(SEED), set()
     while group := list(islice(cases, AT_ONCE)):
+        size_tables(path, group, refused, tally)
         questions = [("check", words, tree) for _, words, tree in group]
         lines, to_walk = probe.ask(path, questions), []
         for (name, words, tree), question, seen in zip(group, questions, lines, strict=True):
             probe.stop_at_difference(name, question, line_of(question), seen)
-            count(tally, name, words, tree, seen)
+            count(tally, name, words, tree, seen, refused)
             if seen == examples.ACCEPTED or name == "tested again":
                 to_walk.append((seen == examples.ACCEPTED, tree))
         walk_some(path, walk_rng, to_walk, tally)
@@ -293,6 +308,8 @@ LEAST = {
     "tested again: 14": 1000, "collapsed: 14": 700, "leaf changed: 14": 2000, "sides swapped: 14": 200,
     "another table's tree: 14": 400, "foreign: 14": 500, "flipped: 14": 150, "ambiguous: 14": 50, "ambiguous, named: 14": 50,
     "accepted, walked with tests": 2500, "words that agree": 2500, "a bit tested twice": 300,
+    "sized 0": 300, "sized 6": 50, "sized 19": 300, "of a table refused with 19: yes": 1000, "of a table refused with 19: 14": 10000,
+    "of a table refused with 19, generated: yes": 300, "of a table refused with 19, other tests first: yes": 400,
     "kind 1, faulty": 70, "kind 6, faulty": 70, "twins": 15000, "twins by the second": 700,
 }
 
@@ -308,7 +325,9 @@ def main():
     print(f"compare_check good: {tally['checks']} checks, {len(examples.CHECK_EXAMPLES)} of them also by hand; "
           f"yes: {tally['yes']}, {refused} (by the first part missed, 1 to 8: {parts}); "
           f"walked: {tally['accepted, walked with tests']} accepted trees with tests, {tally['words that agree']} other words "
-          f"that agree on a mask, {tally['a bit tested twice']} walks that test a bit twice; {tally['twins']} checks with twins")
+          f"that agree on a mask, {tally['a bit tested twice']} walks that test a bit twice; {tally['twins']} checks with twins; "
+          f"tables sized: {tally['sized 0']}, 6: {tally['sized 6']}, 19: {tally['sized 19']}, whose trees are "
+          f"accepted {tally['of a table refused with 19: yes']} times and not {tally['of a table refused with 19: 14']} times")
 
 
 if __name__ == "__main__":

@@ -1,6 +1,7 @@
 """Compares request 13 of probe (the cycles of an entry) with the second implementation, line for line, and with what the plan of each
-table or its damage says, without the second one. At the end wrong calls stand in for probe's (second/wrong_cycles.py), and each must
-be noticed; and it is shown that twinned.py notices lines that depend on cycles.
+table or its damage says, without the second one. Narrow tables are sized too: an entry that no word selects has its cycles as others
+have. At the end wrong calls stand in for probe's (second/wrong_cycles.py), and each must be noticed; and it is shown that twinned.py
+notices lines that depend on cycles.
 
 Usage: compare_cycles.py [path of probe]. Exits with status 1 at the first difference. Quotations are document 02's No. 3.
 """
@@ -25,6 +26,7 @@ TABLES_EACH = 12        # good tables of each width
 MOST_ENTRIES = 256
 LONGEST_ENTRIES = 20    # asked of a table of 16,384 words
 MOST_CUT = 12           # tables are cut before each of their first words
+NARROW = 10             # tables up to that width are sized
 
 
 @dataclass
@@ -128,6 +130,18 @@ def compare(path, cases, tally):
         count(case, seen, tally)
 
 
+def compare_sizes(path, cases, tally):
+    """The sizes of the narrow tables. Of those that are refused with 19 the call gave the cycles of every entry, also of the one that is
+    named."""
+    asked = {(tuple(case.question[1]), case.question[2]) for case in cases if case.name == "usual"}
+    questions = [("measure", list(words)) for words in dict.fromkeys(words for words, _ in sorted(asked)) if words[0] & 0xFF <= NARROW]
+    for question, seen in zip(questions, probe.ask(path, questions), strict=True):
+        probe.stop_at_difference("size", question, line_of(question), seen)
+        _, number, place, *_ = seen.split(" ")
+        tally[f"sized {number}"] += 1
+        tally["cycles of an entry that no word selects"] += number == "19" and (tuple(question[1]), int(place)) in asked
+
+
 # ---------------------------------------------------------------------------- what must be noticed
 
 def notice_wrong(cases):
@@ -190,6 +204,7 @@ LEAST = {
     "longest, opcode_before_cycles, kind 6: 3": 2, "longest, cycles_before_fields, kind 6: 2": 2, "longest, too_long, kind 6: 1": 2,
     "cycles_over, kind 6: 2": 40, "cycles_missing, kind 6: 2": 40, "opcode_before_cycles, kind 6: 3": 40,
     "cycles_before_fields, kind 6: 2": 40, "cut, kind 1: 2": 300, "cut, kind 6: 2": 300,
+    "sized 0": 50, "sized 6": 70, "sized 19": 30, "cycles of an entry that no word selects": 30,
 }
 
 
@@ -199,10 +214,12 @@ def main():
     check_examples(path)
     cases = all_cases(rng)
     compare(path, cases, tally)
+    compare_sizes(path, cases, tally)
     probe.require_enough(tally, LEAST)
     noticed, in_twins = notice_wrong(cases), notice_in_twins(rng)
     numbers = ", ".join(f"{number}: {tally[f'number {number}']}" for number in (1, 2, 3, 4, 11))
     print(f"compare_cycles good: {len(cases)} questions; cycles of kind 1: {tally['kind 1']}, of kind 6: {tally['kind 6']}, {numbers}; "
+          f"tables sized: {tally['sized 0']}, 6: {tally['sized 6']}, 19: {tally['sized 19']}; "
           f"{len(examples.CYCLES_EXAMPLES)} examples by hand; {noticed} of {len(wrong_cycles.WRONG)} wrong calls noticed, "
           f"{in_twins} wrong ways in twins")
 

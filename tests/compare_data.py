@@ -1,8 +1,9 @@
 """Checks the instruction sets in data/: each table is what its list makes, its tree is the second implementation's, what
 probe selects is what the second implementation selects and what a decoder in decoders/ names, and its cycles are the list's. The twin
 of a table, which is of the other kind, has the same tree and selects the same; without forms it has the same tree. Its forms are those
-written here, and operands of known words come out as known numbers and texts. A table that somebody adds to data/, with
-a list or without, has no such decoder, and is compared with the second implementation alone.
+written here, and operands of known words come out as known numbers and texts. With two instructions more that cover an old one it has
+no tree. A table that somebody adds to data/, with a list or without, has no such decoder, and is compared with the second
+implementation alone.
 
 Usage: compare_data.py [path of probe [path of mktree]]. Exits with status 1 at the first difference.
 """
@@ -40,12 +41,14 @@ SEED = 9
 TWINS = Twins(902)
 MASK_SEED = 901                 # words that agree on a mask; the other draws don't depend on them
 FORM_SEED = 903                 # forms that are added
+COVER_SEED = 904                # instructions that are covered
 DECODERS = {"avr": decoders.avr, "riscv": decoders.riscv, "a32": decoders.a32, "buoy": decoders.buoy}
 RANDOM_WORDS = 5400
 WORDS_AT_LEAST_EACH = 30        # words made of each entry, and as many neighbours
 MADE_WORDS = 7500
 ALTERED = 15                    # altered sets of each, which the decoder must tell from the real one
 WORDS_FOR_ALTERED = 40
+COVERED = 3                     # instructions of each set that are covered
 ADDED_WORDS = 200               # looked up in a table that somebody added
 TWIN_EACH = 5                   # every so many-th word is looked up in the twin too
 
@@ -461,6 +464,39 @@ def notice_altered(rng, one, tally):
         tally["altered"] += noticed(rng, one, number)
 
 
+# ---------------------------------------------------------------------------- instructions that no word is left to
+
+def standing_apart(one):
+    """The instructions with a field and without conditions whose words match no other's pattern."""
+    patterns = [mask_and_value(instruction.pattern, one.set.width) for instruction in one.set.instructions]
+    for number, instruction in enumerate(one.set.instructions):
+        mask, value = patterns[number]
+        overlapping = sum((value ^ other) & mask & other_mask == 0 for other_mask, other in patterns)
+        if overlapping == 1 and not instruction.conditions and set(instruction.pattern) - {"0", "1"}:
+            yield number
+
+
+def in_halves(instruction):
+    """Two more specific instructions that share its words: the highest bit of its first field is 0, and 1."""
+    at = next(place for place, bit in enumerate(instruction.pattern) if bit not in "01")
+    return tuple(replace(instruction, pattern=instruction.pattern[:at] + bit + instruction.pattern[at + 1:], forms=()) for bit in "01")
+
+
+def compare_covered(path, mktree_path, rng, one, tally):
+    """19 for the covered instruction, by mktree and in sizing. Lookup takes the table, and selects one of the halves."""
+    entries = one.set.instructions
+    for number in rng.sample(list(standing_apart(one)), COVERED):
+        other = ready(one.name, replace(one.set, instructions=(*entries, *in_halves(entries[number]))))
+        data, name = probe.pack(other.words), f"{one.name}, entry {number} covered"
+        mktree.stop_at_difference(name, data, f"refused 19 {number} 00000000\n", mktree.text_of(mktree_path, data))
+        low, high = (made_word(rng, half, 32) for half in other.set.instructions[-2:])
+        questions = ("measure", other.words), ("lookup", other.words, low), ("lookup", other.words, high)
+        expected = f"12 19 {number} 00000000", f"2 0 0 00000000 {len(entries)}", f"2 0 0 00000000 {len(entries) + 1}"
+        for question, line, seen in zip(questions, expected, probe.ask(path, questions), strict=True):
+            probe.stop_at_difference(name, question, line, seen)
+        tally["covered"] += 1
+
+
 # ---------------------------------------------------------------------------- tables that somebody added
 
 def added(folder):
@@ -488,16 +524,17 @@ def compare_added(path, mktree_path, rng, file, tally):
 
 
 def try_added(path, mktree_path, rng):
-    """A folder with tables that a user added: a good one, one with cycles, an ambiguous one, one at fault and an empty file."""
+    """A folder with tables that a user added: a good one, one with cycles, an ambiguous one, one with an entry that no word selects, one at
+    fault and an empty file."""
     tally = Counter()
     with tempfile.TemporaryDirectory() as folder:
         for name, words in (("good", examples.WORKED), ("cycles", examples.WORKED_CYCLES), ("ambiguous", examples.ZERO_HIGH_ZERO_LOW),
-                            ("cut", examples.WORKED[:5]), ("empty", [])):
+                            ("covered", examples.COVERED_BY_TWO), ("cut", examples.WORKED[:5]), ("empty", [])):
             (Path(folder) / f"{name}.table").write_bytes(probe.pack(words))
         for file in added(Path(folder)):
             compare_added(path, mktree_path, rng, file, tally)
-    if tally["added"] != 5:
-        stop(f"of five added tables {tally['added']} were compared")
+    if tally["added"] != 6:
+        stop(f"of six added tables {tally['added']} were compared")
 
 
 # ---------------------------------------------------------------------------- all of it
@@ -506,7 +543,8 @@ def least(sets):
     needed = {"known": 90, "listed": len(AVR_LISTING), "altered": ALTERED * len(sets), "tree lines": 10000}
     needed |= {"words that agree": 60, "cycles": 2 * sum(len(one.set.instructions) for one in sets), "cycles, not 0": 400,
                "twins": 4 * len(sets) + 1, "twins by the second": 2, "without forms": len(sets), "forms": 36, "operands": 45,
-               "operands below zero": 25, "altered forms": 160, "altered forms of operands": 60, "forms in lists": 16}
+               "operands below zero": 25, "altered forms": 160, "altered forms of operands": 60, "forms in lists": 16,
+               "covered": COVERED * len(sets)}
     for one in sets:
         needed |= {f"{one.name}, twin": 20000 // TWIN_EACH}
         needed |= {one.name: 20000, f"{one.name}, made": 7000, f"{one.name}, neighbours": 7000}
@@ -532,6 +570,7 @@ def main():
         notice_altered(rng, one, tally)
         compare_forms(path, one, tally)
         notice_forms(path, random.Random(FORM_SEED), one, tally)
+        compare_covered(path, mktree_path, random.Random(COVER_SEED), one, tally)
         if one.name == "avr":
             compare_listing(path, one, tree, tally)
     try_lists(tally)
@@ -544,7 +583,8 @@ def main():
     print(f"compare_data good: {len(sets)} sets, {tally['tree lines']} tree words; words by set {said}; "
           f"{tally['known']} known words and {tally['words that agree']} that agree on a mask, "
           f"{tally['listed']} items listed, {tally['altered']} altered sets noticed; {tally['cycles']} cycles; {tally['forms']} forms, "
-          f"{tally['operands']} operands known by number and text, {tally['altered forms']} altered forms noticed; of the twins "
+          f"{tally['operands']} operands known by number and text, {tally['altered forms']} altered forms noticed; "
+          f"{tally['covered']} sets with a covered instruction refused with 19; of the twins "
           f"{in_twins} words and {tally['twins']} other questions; "
           f"{tally['added']} tables added by others")
 

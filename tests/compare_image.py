@@ -1,6 +1,7 @@
 """Compares requests 8 and 9 of probe (a step of the lister, a whole listing) with the second implementation, line for line;
 then each step's mask with probe's own walk of the word there, a part of the steps and listings with those of the tables' twins, and
-probe's own steps through an image with its own listing, all without the second one.
+probe's own steps through an image with its own listing, all without the second one. The tables are sized too: steps and listings take
+those that are refused with 19 as they do others.
 
 Usage: compare_image.py [path of probe]. Exits with status 1 at the first difference.
 """
@@ -207,9 +208,25 @@ def count_list(tally, question, seen):
     tally["list, buffer full" if items == len(buffer) else "list, buffer longer"] += 1
 
 
-def count(tally, name, what, question, seen):
+def refused_with_19(path, cases, tally):
+    """The tables of usual images that sizing refuses so."""
+    words = {tuple(question[1]): None for name, _, question in cases if name == "usual"}
+    questions = [("measure", list(one)) for one in words]
+    refused = set()
+    for question, seen in zip(questions, probe.ask(path, questions), strict=True):
+        probe.stop_at_difference("size", question, line_of(question), seen)
+        number = seen.split(" ")[1]
+        tally[f"sized {number}"] += 1
+        if number == "19":
+            refused.add(tuple(question[1]))
+    return refused
+
+
+def count(tally, name, what, question, seen, refused):
     parts = seen.split(" |")[0].split(" ")
     number = parts[1]
+    if tuple(question[1]) in refused:
+        tally[f"of a table refused with 19, {question[0]} {number}"] += 1
     tally[f"{question[0]} {number}"] += 1
     tally[f"{name}: {number}"] += 1
     tally[f"{what}: {number}"] += 1
@@ -238,10 +255,11 @@ def compare(path, rng, tally):
         for name, questions in source:
             tally["images"] += 1
             cases += [(name, what, question) for what, question in questions]
+        refused = refused_with_19(path, cases, tally)
         lines = probe.ask(path, [case[2] for case in cases])
         for (name, what, question), seen in zip(cases, lines, strict=True):
             probe.stop_at_difference(f"{name}, {what}", question, line_of(question), seen)
-            count(tally, name, what, question, seen)
+            count(tally, name, what, question, seen, refused)
             if seen.startswith("8 0 ") and not seen.endswith(" end"):
                 stepped.append((question, seen))
         compare_masks(path, stepped, tally)
@@ -301,6 +319,9 @@ LEAST = {
     "mask, kind 12": 2500, "mask, kind 13": 1000, "mask, kind 14": 400, "mask, kind 12, the lower half tested": 300,
     "mask, kind 13, the lower half tested": 100, "mask, kind 14, the lower half tested": 100,
     "kind 1, faulty": 100, "kind 6, faulty": 100, "twins": 9000, "twins by the second": 400,
+    "sized 0": 150, "sized 19": 60, "of a table refused with 19, step 0": 3000, "of a table refused with 19, step 14": 400,
+    "of a table refused with 19, step 16": 500, "of a table refused with 19, list 0": 900, "of a table refused with 19, list 14": 50,
+    "of a table refused with 19, list 16": 60, "of a table refused with 19, list 17": 1000,
 }
 
 
@@ -317,7 +338,8 @@ def main():
     lists_said = ", ".join(f"{one}: {tally[f'list {one}']}" for one in numbers)
     items = ", ".join(f"{one}: {tally[f'list, {one}']}" for one in KINDS.values())
     walked = ", ".join(f"{one}: {tally[f'mask, {one}']}" for one in KINDS.values())
-    print(f"compare_image good: {tally['images']} images; steps by number {steps_said}; listings by number {lists_said}; "
+    print(f"compare_image good: {tally['images']} images; tables sized: {tally['sized 0']}, 19: {tally['sized 19']}, with "
+          f"{tally['of a table refused with 19, list 0']} listings; steps by number {steps_said}; listings by number {lists_said}; "
           f"items listed, {items}; {tally['steps followed']} steps followed; masks walked, {walked}; {tally['twins']} questions to twins")
 
 

@@ -1,7 +1,7 @@
 """Compares request 12 of probe (sizing) with the second implementation, line for line. Then holds probe's sizes against probe's own
 trees, without the second one: what generating takes, returns and refuses, and the counts of walks, of every word up to a width.
-Twins of the other kind are sized and lent the same. At the end wrong sizings stand in for probe's (second/wrong_sizes.py), and each
-must be noticed in both ways.
+What the words of narrow tables select tells whether sizing must refuse. Twins of the other kind are sized and lent the same. At the
+end wrong sizings stand in for probe's (second/wrong_sizes.py), and each must be noticed in both ways.
 
 Usage: compare_measure.py [path of probe]. Exits with status 1 at the first difference. Quotations are document 02's No. 2.
 """
@@ -61,10 +61,7 @@ class Case:
 
 def usual_tables(rng):
     for index in range(USUAL_TABLES):
-        width = 1 + index % 32
-        # The tree of a narrow table is small anyway.
-        plan = compare_tree.some_plan(rng, width) if width <= 8 else compare_tree.usual_plan(rng, width)[0]
-        yield "usual table", tables.lay_out(plan).words
+        yield "usual table", tables.lay_out(compare_tree.usual_plan(rng, 1 + index % 32)[0]).words
 
 
 def named_tables(cases):
@@ -87,6 +84,21 @@ def known_plans(rng):
         # One test over the limit, and far over it: 5, also where every leaf is a conflict.
         yield "over the limit", tables.full_tree_plan(rng, width, depth, one_more=depth == 13), Refusal(5)
         yield "conflicts over the limit", tables.full_tree_plan(rng, width, depth, one_more=depth == 13, twice=True), Refusal(5)
+    # An entry that no word selects: 19 at the limit, after 5 and after 6.
+    plan, number = tables.with_excluded(rng, tables.full_tree_plan(rng, 20, 13))
+    yield "excluded at the limit", plan, Refusal(19, place=number)
+    yield "excluded over the limit", tables.with_excluded(rng, tables.full_tree_plan(rng, 20, 13, one_more=True))[0], Refusal(5)
+    yield "excluded and conflicts", tables.with_excluded(rng, tables.full_tree_plan(rng, 20, 9, twice=True))[0], Refusal(6)
+
+
+def covered_cases(rng):
+    """Tables of every width in which no word selects a certain entry, or a single word does."""
+    for width in range(1, 33):
+        for how in tables.COVERS:
+            plan, number = tables.covered_plan(rng, width, how)
+            yield Case(how, tables.lay_out(plan).words, size_line(Refusal(19, place=number)), ENOUGH)
+            plan, _ = tables.covered_plan(rng, width, how, spared=True)
+            yield Case(f"{how}, a word spared", tables.lay_out(plan).words, buffer=ENOUGH)
 
 
 def all_cases(rng):
@@ -95,7 +107,8 @@ def all_cases(rng):
     cases = [Case(*one, buffer=WHOLE if index % WHOLE_EACH == 0 else ENOUGH) for index, one in enumerate(many)]
     few = [*named_tables(islice(compare_tree.large_random_trees(rng), LARGE_CASES)), *named_tables(compare_tree.hand_written())]
     cases += [Case(name, list(words)) for name, words in dict.fromkeys((name, tuple(words)) for name, words in few)]
-    cases.append(Case("the longest", examples.LONGEST))
+    cases += [Case("the longest", examples.LONGEST), Case("the last of 256", examples.LAST_OF_256, "12 19 255 00000000")]
+    cases += covered_cases(rng)
     return cases + [Case(name, tables.lay_out(plan).words, size_line(outcome)) for name, plan, outcome in known_plans(rng)]
 
 
@@ -147,7 +160,7 @@ def check_conflicts(path, cases):
 def ask_all(path, rng, cases, tally):
     """Each table's size, its tree, and the greatest count of the walks."""
     for case, line in zip(cases, probe.ask(path, [case.question for case in cases]), strict=True):
-        if not re.fullmatch(r"12 (0 0 00000000 \d+ \d+|[1-6] \d+ [0-9a-f]{8})", line):
+        if not re.fullmatch(r"12 (0 0 00000000 \d+ \d+|([1-6]|19) \d+ [0-9a-f]{8})", line):
             probe.stop_at_difference(case.name, case.question, "12 0 0 00000000 NODES TESTS or 12 NUMBER PLACE WORD", line)
         case.line = line
     for case, line in zip(cases, probe.ask(path, [("generate", case.words, case.buffer) for case in cases]), strict=True):
@@ -179,6 +192,13 @@ def by_the_second(case, lent):
         yield f"{case.name}, {len(question[2])} words lent", question, line_of(question), line
 
 
+def by_words(case):
+    """Whether 6 or 19 is said, and of which entry, against what all words of a narrow table select."""
+    said = compare_tree.said_by_words(case.question, case.line)
+    if said is not None:
+        yield f"{case.name}, by all words", case.question, said, compare_tree.number_and_place(case.line)
+
+
 def by_itself(case, lent):
     """The size against probe's other answers."""
     # "over it the answer is 5, then 6 as in generating", after 1 to 4; else "the number of nodes that generating writes"
@@ -198,7 +218,7 @@ def by_itself(case, lent):
 def compare(path, cases, tally):
     asked = []
     for case, lent in zip(cases, lend(path, cases), strict=True):
-        for difference in chain(by_the_second(case, lent), by_itself(case, lent)):
+        for difference in chain(by_the_second(case, lent), by_itself(case, lent), by_words(case)):
             probe.stop_at_difference(*difference)
         if case.known is not None:
             probe.stop_at_difference(f"{case.name}, as it is built", case.question, case.known, case.line)
@@ -233,10 +253,13 @@ def notice_wrong(path, cases):
 
 def count(case, lent, tally):
     number = case.line.split(" ")[1]
+    tally[f"by words {number}"] += len(list(by_words(case)))
     tally["tables"] += 1
     tally[case.name] += 1
     tally[f"number {number}"] += 1
     tally["6, not word 0"] += number == "6" and not case.line.endswith(" 00000000")
+    tally["19, not entry 0"] += number == "19" and not case.line.startswith("12 19 0 ")
+    tally[f"{case.name}: {number}"] += 1
     tally["into 16,384 words"] += case.buffer is WHOLE
     tally["lent buffers"] += len(lent)
     if number in ("2", "3", "4"):
@@ -250,9 +273,13 @@ def count(case, lent, tally):
 
 
 LEAST = {
-    "tables": 1200, "number 0": 1000, "number 1": 40, "number 2": 100, "number 3": 10, "number 4": 40, "number 5": 4, "number 6": 200,
+    "tables": 1700, "number 0": 900, "number 1": 40, "number 2": 100, "number 3": 10, "number 4": 40, "number 5": 4, "number 6": 200,
+    "number 19": 220, "19, not entry 0": 120, "usual table: 0": 700, "usual table: 19": 120,
+    **{f"{how}: 19": 32 for how in tables.COVERS}, **{f"{how}, a word spared: 0": 32 for how in tables.COVERS},
+    "excluded at the limit: 19": 1, "excluded over the limit: 5": 1, "excluded and conflicts: 6": 1,
     "6, not word 0": 150, "no entries": 32, "at the limit": 2, "conflicts at the limit": 1, "over the limit": 2,
-    "conflicts over the limit": 2, "large random tree": 3, "into 16,384 words": 400, "lent buffers": 3000,
+    "conflicts over the limit": 2, "large random tree": 3, "into 16,384 words": 400, "lent buffers": 2700,
+    "by words 0": 250, "by words 6": 80, "by words 19": 90,
     **{f"sized, width {width}": 20 for width in range(1, 33)}, **{f"sized, {tests} tests": 5 for tests in range(25)},
     "every word": 250, "words of these": 50000, "walks": 60000,
     "kind 1, faulty": 80, "kind 6, faulty": 80, "twins": 3500, "twins by the second": 70,
@@ -269,8 +296,10 @@ def main():
     compare(path, cases, tally)
     probe.require_enough(tally, LEAST)
     noticed = notice_wrong(path, some_cases(cases))
-    numbers = ", ".join(f"{number}: {tally[f'number {number}']}" for number in range(1, 7))
-    print(f"compare_measure good: {tally['tables']} tables; sized: {tally['number 0']}, {numbers}; {tally['lent buffers']} buffers by "
+    numbers = ", ".join(f"{number}: {tally[f'number {number}']}" for number in (*range(1, 7), 19))
+    by_all = ", ".join(f"{what}: {tally[f'by words {number}']}" for what, number in (("sized", 0), ("6", 6), ("19", 19)))
+    print(f"compare_measure good: {tally['tables']} tables; sized: {tally['number 0']}, {numbers}; of these by all words {by_all}; "
+          f"{tally['lent buffers']} buffers by "
           f"their size, {tally['into 16,384 words']} of 16,384 words; {tally['every word']} tables with every word: "
           f"{tally['words of these']}, {tally['walks'] - tally['words of these']} other walks; {tally['twins']} questions to twins; "
           f"{noticed} of {len(WRONG)} wrong sizings noticed")

@@ -17,7 +17,7 @@ from decimal import Decimal
 from fractions import Fraction
 
 import probe
-from second import examples, images, selection, tables, tree, wrong_numbers
+from second import examples, images, reach, selection, tables, tree, wrong_numbers
 from second.lines import line_of
 from second.reader import read
 from second.tables import FIXED, NO_FORM, PLAIN, SIGNED, WITH_CYCLES
@@ -298,12 +298,19 @@ def compare_all(path, rng, tally):
 
 # ---------------------------------------------------------------------------- tables that differ in forms only
 
+def with_tree(plan):
+    """The plan without the entries that no word selects; one with a large tree keeps them."""
+    nodes = tree.nodes_of(read(tables.lay_out(plan).words), 300)
+    return plan if nodes is None else reach.reachable(plan, nodes)
+
+
 def plans(rng):
     for width in range(1, 33):
         yield tables.good_plan(rng, width)
         yield tables.overlapping_plan(rng, width, most_entries=6)
-        yield tables.nested_plan(rng, width, most_entries=6)
-        yield tables.divided_plan(rng, width)
+        # Every second of these may be refused with 19.
+        nested, divided = tables.nested_plan(rng, width, most_entries=6), tables.divided_plan(rng, width)
+        yield from (with_tree(nested), divided) if width % 2 else (nested, with_tree(divided))
     yield from (tables.full_tree_plan(rng, 32, depth) for depth in (3, 7))
     yield from (images.image_plan(rng) for _ in range(20))
 
@@ -445,6 +452,7 @@ LEAST = {
     "other forms": 5000, "other forms, read 0": 200, "other forms, lookup 0": 300, "other forms, lookup 6": 20,
     "other forms, decode 0": 300, "other forms, encode 0": 300, "other forms, encode 12": 700, "other forms, encode 13": 100,
     "other forms, generate 0": 100, "other forms, measure 0": 100, "other forms, check 0": 100, "other forms, list 0": 20,
+    "other forms, generate 6": 50, "other forms, measure 6": 50, "other forms, generate 19": 50, "other forms, measure 19": 50,
     "other forms, step 0": 20, "other forms, cycles 0": 700,
 }
 

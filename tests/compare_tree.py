@@ -1,6 +1,8 @@
 """Compares requests 3, 4, 10 and 11 of probe (generate, the walk exported to C, walk on words, the mask exported to C) with the
 second implementation, line for line; then generates from twins of the other kind, and checks probe's own trees against probe's own
-lookups, and its masks against its counts and against each other, without the second one.
+lookups, and its masks against its counts and against each other, without the second one. Whether a table is refused with 19 or 6 is
+also found by trying all words, up to a width; a table refused with 19 is given to the other calls, which take it. At the end wrong
+judgements stand in for the right one (second/wrong_reach.py), and each must be noticed.
 
 Usage: compare_tree.py [path of probe]. Exits with status 1 at the first difference.
 """
@@ -9,11 +11,13 @@ import random
 import sys
 from collections import Counter, defaultdict
 from dataclasses import dataclass
+from functools import lru_cache
 
 import masks
 import probe
 import twinned
-from second import examples, selection, tables, trees
+from second import examples, reach, selection, tables, trees, wrong_reach
+from second import tree as second_tree
 from second.lines import line_of
 from second.reader import Refusal, read
 from second.tree import MOST_TREE_WORDS, nodes_of
@@ -21,10 +25,13 @@ from second.twins import Twins, kind_of
 
 SEED = 3
 MASK_SEED = 301         # words that agree on a mask; the other draws don't depend on them
+REACH_SEED = 302        # what is asked of tables that are refused with 19
 TABLES = 1200
+UNREACHED_KEPT = 0.3    # so many of the drawn plans keep the entries that no word selects
 USUAL_NODES = 1000      # larger trees are made on purpose only, because Python is slow
 SMALL_NODES = 9         # trees of at most that many nodes are damaged in every way
 ALL_WORDS_WIDTH = 10    # up to that width every word is walked
+LOOKED_UP_WIDTH = 8     # up to that width probe looks up every word of a table that is refused with 19
 AT_ONCE = 60            # tables whose walks are asked in one go
 AGREEING_EACH = 6       # every so many-th walk of a wider tree is asked again with a word that agrees on its mask
 
@@ -34,6 +41,7 @@ class Case:
     name: str
     plan: tables.TablePlan      # None where the table is damaged or written by hand
     question: tuple
+    known: str = None           # how the line begins, where that follows from how the table is built
 
 
 # ---------------------------------------------------------------------------- tables
@@ -55,11 +63,19 @@ def some_plan(rng, width):
     return tables.small_entries_plan(rng, width, rng.choice([10, 30, 100]))
 
 
+def nodes_in(plan):
+    return nodes_of(read(tables.lay_out(plan).words), USUAL_NODES)
+
+
 def usual_plan(rng, width):
-    """A plan with a tree of a usual size, and that size. The second implementation only sorts out plans here."""
+    """A plan with a tree of a usual size, and that size. Many plans have entries that no word selects; most of these plans lose them, so
+    that enough trees are generated. The second implementation only sorts out plans and entries here."""
     while True:
         plan = some_plan(rng, width)
-        nodes = nodes_of(read(tables.lay_out(plan).words), USUAL_NODES)
+        nodes = nodes_in(plan)
+        if nodes is not None and rng.random() >= UNREACHED_KEPT:
+            fewer = reach.reachable(plan, nodes)
+            plan, nodes = fewer, nodes if fewer is plan else nodes_in(fewer)
         if nodes is not None:
             return plan, len(nodes)
 
@@ -78,8 +94,33 @@ def usual_tables(rng):
             yield Case("usual table", plan, ("generate", words, random_buffer(rng, length)))
 
 
+def covered_tables(rng):
+    """Tables of every width in which no word selects a certain entry, or a single word does."""
+    for width in range(1, 33):
+        for how in tables.COVERS:
+            for spared in (False, True):
+                plan, number = tables.covered_plan(rng, width, how, spared)
+                words, nodes = tables.lay_out(plan).words, len(nodes_in(plan))
+                name = f"{how}, a word spared" if spared else how
+                answered = f"3 0 0 00000000 {nodes + 1} |" if spared else f"3 19 {number} 00000000 |"
+                for length, known in ((nodes + 1, answered), (nodes, "3 5 0 00000000 |"), (nodes + 2 + rng.randrange(12), answered)):
+                    yield Case(name, plan, ("generate", words, random_buffer(rng, length)), known)
+
+
+def excluded_at_the_limit(rng):
+    """An entry that no word selects, in trees of 16,384 words and one test over."""
+    for one_more in (False, True):
+        plan, number = tables.with_excluded(rng, tables.full_tree_plan(rng, 20, 13, one_more=one_more))
+        for length in (MOST_TREE_WORDS - 1, MOST_TREE_WORDS, MOST_TREE_WORDS + 3):
+            fits = length >= MOST_TREE_WORDS and not one_more
+            yield Case("excluded, at the limit", plan, ("generate", tables.lay_out(plan).words, random_buffer(rng, length)),
+                       f"3 19 {number} 00000000 |" if fits else "3 5 0 00000000 |")
+    yield Case("256 entries", None, ("generate", examples.LAST_OF_256, random_buffer(rng, 512)), "3 19 255 00000000 |")
+    yield Case("256 entries", None, ("generate", examples.LAST_OF_256, random_buffer(rng, 511)), "3 5 0 00000000 |")
+
+
 def refused_tables(rng):
-    """1 to 4 come before 5 and 6, and leave the buffer as it was."""
+    """1 to 4 come before 5, 6 and 19, and leave the buffer as it was."""
     for index in range(300):
         words = tables.some_damaged(rng, some_plan(rng, 1 + index % 32))
         yield Case("refused table", None, ("generate", words, random_buffer(rng, rng.choice([0, 1, 2, 9, 40]))))
@@ -126,25 +167,70 @@ def hand_written():
     """The tables of document 01 and of examples.py, with buffers of every small length."""
     for words in (examples.PRINTED, examples.EVERY_KIND, examples.WORKED, examples.ZERO_HIGH_ZERO_LOW, examples.WITH_THIRD,
                   examples.MORE_MASK_BITS, examples.SHORT, examples.SHORT_AND_LONG, examples.EIGHT_UNMATCHING,
-                  examples.EIGHT_CONDITIONS, [], [0x10000001], [0x10000020]):
+                  examples.EIGHT_CONDITIONS, examples.NOTHING_DEEPEST, examples.COVERED_BY_ONE, examples.COVERED_BY_TWO,
+                  examples.MIDDLE_COVERED, examples.LAST_COVERED, examples.OWN_CONDITION, examples.NOT_COVERED, examples.TWO_UNREACHED,
+                  examples.TWINS_AND_EXCLUDED, examples.COVERED_CYCLES, [], [0x10000001], [0x10000020]):
         for length in range(34):
             yield Case("by hand", None, ("generate", words, [0x01010101 * (at % 256) for at in range(1, length + 1)]))
 
 
-def compare_generating(path, rng, tally):
-    """Every generated tree as (plan, table's words, tree, words after it), as probe wrote it."""
+def all_cases(rng):
     cases = []
-    for source in (hand_written(), usual_tables(rng), refused_tables(rng), tables_at_the_limit(rng), large_random_trees(rng)):
+    for source in (hand_written(), usual_tables(rng), refused_tables(rng), tables_at_the_limit(rng), large_random_trees(rng),
+                   covered_tables(rng), excluded_at_the_limit(rng)):
         cases += source
-    generated = {}
+    return cases
+
+
+def number_and_place(line):
+    return " ".join(line.split(" ")[1:3])
+
+
+@lru_cache(maxsize=4)
+def judged_by_words(words):
+    """Number and place, as all words of a narrow table say it."""
+    judged = reach.judged_by_words(read(words))
+    return f"{judged.number} {judged.place}" if judged else "0 0"
+
+
+def said_by_words(question, line):
+    """6, 19 with its place, or neither, as all words say it; None if there are too many, or if the table or the room comes before."""
+    words = question[1]
+    if line.split(" ")[1] not in ("0", "6", "19") or words[0] & 0xFF > reach.MOST_WIDTH:
+        return None
+    return judged_by_words(tuple(words))
+
+
+def check_by_words(case, seen, tally):
+    said = said_by_words(case.question, seen)
+    if said is not None:
+        probe.stop_at_difference(f"{case.name}, by all words", case.question, said, number_and_place(seen))
+        tally[f"by words {said.split(' ')[0]}"] += 1
+
+
+def check_cleared(case, number, back):
+    """5, 6 and 19: the tree buffer is all zero."""
+    if number in ("5", "6", "19"):
+        probe.stop_at_difference(f"{case.name}, the buffer", case.question, " 00000000" * len(case.question[2]), back)
+
+
+def compare_generating(path, cases, tally):
+    """Every generated tree as (plan, table's words, tree, words after it), as probe wrote it; and the tables that are refused with 19, as
+    (plan, words, place)."""
+    generated, unreached = {}, {}
     lines = probe.ask(path, [case.question for case in cases])
     for case, seen in zip(cases, lines, strict=True):
         probe.stop_at_difference(case.name, case.question, line_of(case.question), seen)
+        if case.known is not None:
+            probe.stop_at_difference(f"{case.name}, as it is built", case.question, case.known, seen[:len(case.known)])
         _, words, buffer = case.question
         front, _, back = seen.partition(" |")
         parts = front.split(" ")
+        check_cleared(case, parts[1], back)
+        check_by_words(case, seen, tally)
         tally["generate " + (parts[1] if parts[1] != "0" else "answered")] += 1
         tally["generating, " + case.name] += 1
+        tally[f"generating, {case.name}: {parts[1]}"] += 1
         if parts[1] in ("2", "3", "4"):
             tally[f"kind {kind_of(words)}, faulty"] += 1
         if case.plan is not None:
@@ -156,8 +242,97 @@ def compare_generating(path, rng, tally):
             length = int(parts[4])
             generated[tuple(words)] = (case.plan, words, after[:length], after[length:])
             tally["generated exactly" if length == len(buffer) else "generated with words left"] += 1
+        if parts[1] == "19":
+            tally["19, not entry 0"] += parts[2] != "0"
+            if case.plan is not None and len(buffer) < MOST_TREE_WORDS:
+                unreached[tuple(words)] = (case.plan, words, int(parts[2]))
     twinned.compare(path, Twins(SEED), [(case.name, case.question, seen) for case, seen in zip(cases, lines)], tally)
-    return list(generated.values())
+    return list(generated.values()), list(unreached.values())
+
+
+# ---------------------------------------------------------------------------- tables that are refused with 19
+
+def other_calls(rng, plan, words):
+    """(what, question): the calls that don't judge whether some word selects an entry, and walks of the second implementation's tree."""
+    made = second_tree.written(plan.width, second_tree.nodes_once(tuple(words)))
+    some = [tables.word_for(rng, plan) for _ in range(12)]
+    for word in range(1 << plan.width) if plan.width <= LOOKED_UP_WIDTH else some:
+        yield "lookup", ("lookup", words, word)
+    for word in some[:4]:
+        yield "decode", ("decode", words, word, random_buffer(rng, 8))
+        yield "walk", ("walk", made, word)
+    for number, entry in enumerate(plan.entries):
+        for word in some[:2]:
+            yield f"encode {number}", ("encode", words, number, tables.values_in(entry, word))
+    yield "check", ("check", words, made)
+    yield "check altered", ("check", words, trees.flipped(rng, made))
+
+
+def check_looked_up(unreached, found, tally):
+    """The place is the first entry that none of probe's own lookups of all words selects. found: by the table, the entries' numbers"""
+    for plan, words, place in unreached:
+        if plan.width <= LOOKED_UP_WIDTH:
+            first = next(number for number in range(256) if str(number) not in found[id(words)])
+            probe.stop_at_difference("19 against probe's lookups", ("measure", words), f"entry {first}", f"entry {place}")
+            tally["19 by probe's lookups"] += 1
+
+
+def compare_unreached(path, rng, unreached, tally):
+    """unreached: (plan, words, place)"""
+    asked = [(one, *call) for one in unreached for call in other_calls(rng, *one[:2])]
+    found = defaultdict(set)
+    for ((_, words, place), what, question), seen in zip(asked, probe.ask(path, [question for *_, question in asked]), strict=True):
+        probe.stop_at_difference(f"a table refused with 19, {what}", question, line_of(question), seen)
+        if what == f"encode {place}":
+            # Its values fit.
+            probe.stop_at_difference("encoding what no word selects", question, "6 13 ", seen[:5])
+        if what == "lookup":
+            found[id(words)].add(seen.split(" ")[4])
+        tally[f"of 19, {what.split(' ')[0]} {seen.split(' ')[1]}"] += 1
+    check_looked_up(unreached, found, tally)
+    tally["refused with 19"] += len(unreached)
+
+
+# ---------------------------------------------------------------------------- wrong judgements
+
+def line_with(name, wrong, question):
+    """The second implementation's line, with another function in tree.py."""
+    right = getattr(second_tree, name)
+    setattr(second_tree, name, wrong)
+    line = line_of(question)
+    setattr(second_tree, name, right)
+    return line
+
+
+def is_another_line(question, line):
+    return line != line_of(question)
+
+
+def is_against_words(question, line):
+    """Whether a line is not what all words of a narrow table say."""
+    said = said_by_words(question, line_of(question))
+    return said is not None and said != number_and_place(line)
+
+
+def notice(wrong_ones, cases, shows):
+    """Each must be shown by the line of some case."""
+    left = set(wrong_ones)
+    for case in cases:
+        left -= {one for one in left if shows(case.question, line_with(*one, case.question))}
+        if not left:
+            return
+    sys.exit(f"no table shows it: {left.pop()[1].__doc__}")
+
+
+def notice_wrong(cases):
+    """By now the lines are right. second/selfcheck.py tries the tables by hand; here are drawn ones, and one without entries. All words of a
+    table don't tell what fits, or what is in a buffer."""
+    judgements = [("refusal_of", wrong) for wrong in wrong_reach.WRONG]
+    others = [("generate", wrong) for wrong in wrong_reach.WRONG_BUFFERS]
+    drawn = [case for case in cases if case.name in ("usual table", *tables.COVERS) or case.question[1] == [0x10000001]]
+    notice(judgements + others, drawn, is_another_line)
+    notice([one for one in judgements if one[1] is not wrong_reach.before_fit], drawn, is_against_words)
+    return len(judgements) + len(others)
 
 
 # ---------------------------------------------------------------------------- walks of generated trees
@@ -215,6 +390,14 @@ def check_mask(name, question, seen, mask, tally):
     elif request == "4":
         tally[f"mask 0 for {number}"] += 1
         tally["mask 0 for an odd length"] += len(question[1]) % 4 != 0
+
+
+def check_all_named(words, tree, answers):
+    """Of a generated tree, the walks of all words name every entry of the table."""
+    named = {int(named) for named, _, _ in answers.values() if named != selection.NOTHING}
+    unreached = reach.unreached_in(words[0] >> 16 & 0xFFF, named)
+    if len(answers) == 1 << (words[0] & 0xFF) and unreached:
+        probe.stop_at_difference("entries that no walk names", ("generate", words, tree), "[]", str(unreached))
 
 
 def check_pairs(tree, answers, tally):
@@ -283,6 +466,8 @@ def compare_walks(path, rng, generated, tally):
             if number == 0:
                 masks.check_ones("generated", question, count, mask)
                 answered[id(tree)][word] = named, count, mask
+    for _, words, tree, _ in generated:
+        check_all_named(words, tree, answered[id(tree)])
     return [(tree, answered[id(tree)]) for _, _, tree, _ in generated]
 
 
@@ -388,7 +573,13 @@ def compare_other_trees(path, rng, generated, tally):
 # ---------------------------------------------------------------------------- counting
 
 LEAST = {
-    "generate answered": 1500, "generate 5": 1500, "generate 6": 400, "ambiguous, not word 0": 300,
+    "generate answered": 1500, "generate 5": 1500, "generate 6": 400, "ambiguous, not word 0": 300, "generate 19": 650,
+    "19, not entry 0": 350, "generating, usual table: 0": 1200, "generating, usual table: 6": 400, "generating, usual table: 19": 250,
+    **{f"generating, {how}: 19": 64 for how in tables.COVERS}, **{f"generating, {how}, a word spared: 0": 64 for how in tables.COVERS},
+    "generating, excluded, at the limit: 19": 2, "generating, excluded, at the limit: 5": 4, "generating, 256 entries: 19": 1,
+    "by words 0": 600, "by words 6": 200, "by words 19": 300,
+    "refused with 19": 200, "19 by probe's lookups": 50, "of 19, lookup 0": 4000, "of 19, decode 0": 800, "of 19, walk 0": 800,
+    "of 19, encode 0": 900, "of 19, encode 13": 1000, "of 19, check 0": 200, "of 19, check 14": 200,
     "generate 1": 10, "generate 2": 80, "generate 3": 10, "generate 4": 50, "kind 1, faulty": 80, "kind 6, faulty": 80,
     "twins": 7000, "twins by the second": 350,
     "generated exactly": 600, "generated with words left": 600,
@@ -415,17 +606,22 @@ def main():
     path = probe.path_from_arguments()
     rng = random.Random(SEED)
     tally = Counter()
-    generated = compare_generating(path, rng, tally)
+    cases = all_cases(rng)
+    generated, unreached = compare_generating(path, cases, tally)
     compare_pairs(path, compare_walks(path, rng, generated, tally), tally)
     compare_other_trees(path, rng, generated, tally)
+    compare_unreached(path, random.Random(REACH_SEED), unreached, tally)
     probe.require_enough(tally, LEAST)
-    generate = ", ".join(f"{one}: {tally[f'generate {one}']}" for one in ("answered", "1", "2", "3", "4", "5", "6"))
+    noticed = notice_wrong(cases)
+    generate = ", ".join(f"{one}: {tally[f'generate {one}']}" for one in ("answered", "1", "2", "3", "4", "5", "6", "19"))
+    by_words = ", ".join(f"{what}: {tally[f'by words {number}']}" for what, number in (("tree", 0), ("6", 6), ("19", 19)))
     walk = ", ".join(f"{one}: {tally[f'walk {one}']}" for one in ("entry", "nothing", "7", "8", "9"))
     twice = tally["request 4, a bit tested twice"] + tally["request 10, a bit tested twice"]
-    print(f"compare_tree good: {TABLES} random tables, {len(generated)} trees; generate {generate}; from twins: {tally['twins']}; "
-          f"walk {walk}; "
+    print(f"compare_tree good: {TABLES} random tables, {len(generated)} trees; generate {generate}; of these by all words {by_words}; "
+          f"from twins: {tally['twins']}; {len(unreached)} tables refused with 19 given to other calls; walk {walk}; "
           f"masks by request 11: {tally['request 11']}, {twice} walks test a bit twice; {tally['trees with every word']} trees "
-          f"with every word: {tally['words of these trees']}; {tally['words that agree']} other words that agree on a mask")
+          f"with every word: {tally['words of these trees']}; {tally['words that agree']} other words that agree on a mask; "
+          f"{noticed} wrong judgements noticed")
 
 
 if __name__ == "__main__":

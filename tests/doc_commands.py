@@ -134,7 +134,8 @@ def check_crates():
 def check_theorems():
     """Each theorem that docs/TRUSTED.md names stands in the file that it names."""
     page = (ROOT / "docs" / "TRUSTED.md").read_text(encoding="utf-8")
-    named = [(path, name) for path, names in re.findall(r"`(\w+/proofs/\w+\.antt)`: ([^|]*) \|", page) for name in re.findall(r"`([\w-]+)`", names)]
+    lists = re.findall(r"`(\w+/proofs/\w+\.antt)`: ([^|]*?)(?=; `\w+/proofs/| \|)", page)
+    named = [(path, name) for path, names in lists for name in re.findall(r"`([\w-]+)`", names)]
     for path, name in named:
         text = (ROOT / "crates" / path).read_text(encoding="utf-8")
         if not re.search(rf"^ *pub (record )?{name}\b", text, re.MULTILINE):

@@ -5,15 +5,18 @@ Usage: exhaustive.py [path of probe] [long]. Exits with status 1 at the first di
 - without entries, widths 1 to 3
 - one entry, and two entries in either order: every length, every mask and value; the fewest fields cover the rest
 - one entry of every mask and value with one condition: every matching pattern, no unmatching pattern or one of at most one bit
+- of width 1: two and three entries, each without conditions or with one, without unmatching patterns
+- of width 2: three entries of every length, mask and value; one entry with two conditions without unmatching patterns
 - long: one entry of every length with one condition, every matching pattern, no unmatching pattern or any one
 - long: two entries, the first with every condition without unmatching patterns
 
 Each table is looked up with all words and two that are too high, generated into 16 words (each tree of width 3 fits) and into as
 many as its tree has and one fewer; its tree is checked and walked with all words, and each walk's count is the number of ones in
-its mask. It is sized: refused as it is generated into 16 words, else with one node fewer than words, and with the greatest count of
-these walks. Tables without conditions are also checked with all trees of one and three nodes (two entries: a part of them but for
-the long form). The same is asked of a twin of each table, which has cycles. At the end mistakes are put into the second
-implementation one by one, and each must give another line somewhere.
+its mask. (If a table is refused with 19, the tree is the second implementation's.) Probe's own lookups of all words say whether
+generating must give a tree, 6, or 19 and for which entry. It is sized: refused as it is generated into 16 words, else with one node
+fewer than words, and with the greatest count of these walks. Tables without conditions are also checked with all trees of one and
+three nodes (two entries: a part of them but for the long form). The same is asked of a twin of each table, which has cycles. At the
+end mistakes are put into the second implementation one by one, and each must give another line somewhere.
 """
 
 import itertools
@@ -24,9 +27,8 @@ from collections import Counter
 import masks
 import probe
 import twinned
-from second import checker, measure, selection, tree, walk, wrong_cycles, wrong_masks, wrong_sizes
+from second import checker, measure, reach, selection, tree, walk, wrong_cycles, wrong_masks, wrong_reach, wrong_sizes
 from second.lines import line_of
-from second.reader import Refusal
 from second.tables import EntryPlan, TablePlan, free_runs, lay_out, own_bits
 from second.twins import Twins
 
@@ -50,13 +52,19 @@ def patterns(allowed):
             yield from ((mask, value) for value in range(mask + 1) if value & ~mask == 0)
 
 
-def entry_of(length, mask, value, conditions=()):
-    return EntryPlan(0, length, mask, value, free_runs(WIDTH, length, mask), list(conditions))
+def entry_of(length, mask, value, conditions=(), width=WIDTH):
+    return EntryPlan(0, length, mask, value, free_runs(width, length, mask), list(conditions))
 
 
-def plain_entries():
-    for length in LENGTHS:
-        yield from (entry_of(length, mask, value) for mask, value in patterns(own_bits(WIDTH, length)))
+def plain_entries(width=WIDTH):
+    for length in range(1, width + 1):
+        yield from (entry_of(length, mask, value, width=width) for mask, value in patterns(own_bits(width, length)))
+
+
+def entries_of_one_bit():
+    """Without conditions, and with one: every opcode, every matching pattern."""
+    for (mask, value), matching in itertools.product(patterns(1), [None, *patterns(1)]):
+        yield entry_of(1, mask, value, [] if matching is None else [(matching, [])], width=1)
 
 
 def entries_with_a_condition(lengths, unmatching_too, most_bits):
@@ -83,6 +91,13 @@ def family(long):
     conditioned = entries_with_a_condition(LENGTHS, True, WIDTH) if long else entries_with_a_condition((WIDTH,), True, 1)
     for entry in conditioned:
         yield "one condition", words_of([entry])
+    for count in (2, 3):
+        for entries in itertools.product(entries_of_one_bit(), repeat=count):
+            yield f"{count} of width 1", words_of(entries, 1)
+    for entries in itertools.product(plain_entries(2), repeat=3):
+        yield "3 of width 2", words_of(entries, 2)
+    for (mask, value), *matching in itertools.product(patterns(3), repeat=3):
+        yield "two conditions", words_of([entry_of(2, mask, value, [(one, []) for one in matching], width=2)], 2)
     if long:
         for first, second in itertools.product(entries_with_a_condition((WIDTH,), False, 0), plain):
             yield "two, one condition", words_of([first, second])
@@ -102,12 +117,12 @@ def questions_of(words, with_small_trees):
     width = words[0] & 0xFF
     for word in (*range(1 << width), *HIGH_WORDS):
         yield "lookup", words, word
-    outcome, after = tree.generate(words, BUFFER)
     yield "generate", words, BUFFER
-    if not isinstance(outcome, Refusal):
-        made = after[:outcome]
-        yield "generate", words, BUFFER[:outcome]
-        yield "generate", words, BUFFER[:outcome - 1]
+    nodes = tree.nodes_once(tuple(words))
+    if tree.conflict_word(nodes) is None:
+        made = tree.written(width, nodes)
+        yield "generate", words, BUFFER[:len(made)]
+        yield "generate", words, BUFFER[:len(made) - 1]
         yield "check", words, made
         for word in (*range(1 << width), *HIGH_WORDS):
             yield "walk", made, word
@@ -128,6 +143,23 @@ def in_groups(questions):
         yield [asked for one_table in group for asked in one_table]
 
 
+def check_reach(name, question, seen, found, tally):
+    """Generating against what probe's own lookups of all words found."""
+    judged, (_, number, place, *_) = reach.judged(question[1][0] >> 16 & 0xFFF, found), seen.split(" ")
+    # The word of 6 is not judged by this.
+    wanted = f"{judged.number} {judged.place}" if judged else "0 0"
+    probe.stop_at_difference(f"{name}, by all words", question, wanted, f"{number} {place}")
+    tally[f"by words {number}"] += 1
+    tally[f"by words {number}, {name}"] += 1
+    tally["by words 19, not entry 0"] += number == "19" and place != "0"
+
+
+def found_in(line):
+    """What a word of the width selects, by the line of its lookup."""
+    number, named = line.split(" ")[1], line.split(" ")[-1]
+    return selection.AMBIGUOUS if number == "6" else named if named == selection.NOTHING else int(named)
+
+
 def check_size(name, question, seen, made, most):
     """Sizing against the line of generating into enough words, and against the greatest count of all walks."""
     _, number, place, word, *words = made.split(" ")
@@ -136,7 +168,7 @@ def check_size(name, question, seen, made, most):
 
 
 def compare(path, long):
-    tally, twins = Counter(), Twins(SEED)
+    tally, twins, found = Counter(), Twins(SEED), set()
     for group in in_groups(all_questions(long)):
         lines = probe.ask(path, [question for _, question in group])
         twinned.compare(path, twins, [(*asked, seen) for asked, seen in zip(group, lines)], tally)
@@ -147,14 +179,18 @@ def compare(path, long):
             tally[f"{question[0]} {parts[1]}"] += 1
             tally[question[0]] += 1
             tally["questions"] += 1
+            if question[0] == "lookup" and question[2] not in HIGH_WORDS:
+                found.add(found_in(seen))
             if question[0] == "generate" and question[2] == BUFFER:
                 made, most = seen.partition(" |")[0], 0
+                check_reach(name, question, made, found, tally)
             if question[0] == "walk" and parts[1] == "0":
                 count, mask = masks.tests_and_mask(seen)
                 masks.check_ones(name, question, count, mask)
                 most = max(most, count)
             if question[0] == "measure":
                 check_size(name, question, seen, made, most)
+                found = set()
     return tally
 
 
@@ -217,6 +253,8 @@ MISTAKES = [
     ("bits of all paths", "measure", wrong_sizes.bits_of_all_paths),
     ("words for nodes", "measure", wrong_sizes.words_for_nodes),
     ("6 without its word", "measure", wrong_sizes.word_left_out),
+    *((wrong.__doc__, "refusal_of", wrong) for wrong in wrong_reach.WRONG),
+    *((wrong.__doc__, "generate", wrong) for wrong in wrong_reach.WRONG_BUFFERS),
     ("fewer cycles decide", "more_specific", wrong_cycles.fewer_cycles_win),
 ]
 MODULES = {"selection": selection, "tree": tree, "checker": checker, "walk": walk, "measure": measure}
@@ -249,8 +287,11 @@ def is_noticed(function, mistake, answered):
 
 
 def notice_mistakes():
-    """A few of the tables are enough to show each mistake."""
-    some = random.Random(SEED).sample(list(family(False)), SOME_TABLES)
+    """A few of the tables are enough to show each mistake. With them are those of which there are too few: without entries, and one
+    whose longest paths lead to nothing, -- without 10 and 11."""
+    everything = list(family(False))
+    some = random.Random(SEED).sample(everything, SOME_TABLES) + [one for one in everything if one[0] == "no entries"]
+    some.append(("two conditions", words_of([entry_of(2, 0, 0, [((3, 2), []), ((3, 3), [])], width=2)], 2)))
     questions = [question for _, words in some for question in questions_of(words, with_small_trees=False)]
     questions += [("check", words, other) for _, words in some[:3] for other in small_trees(1)]
     twins = Twins(SEED)
@@ -263,8 +304,10 @@ def notice_mistakes():
 
 
 LEAST = {"lookup 0": 50000, "lookup 6": 500, "lookup 7": 10000, "generate 0": 10000, "generate 5": 5000, "generate 6": 300,
-         "check 0": 5000, "check 14": 5000, "walk 0": 50000, "walk 7": 10000, "measure 0": 5000, "measure 6": 300,
-         "twins": 100000, "twins by the second": 5000}
+         "generate 19": 4000, "check 0": 8000, "check 14": 5000, "walk 0": 50000, "walk 7": 10000, "measure 0": 5000, "measure 6": 300,
+         "measure 19": 2000, "by words 0": 7000, "by words 6": 1500, "by words 19": 2000, "by words 19, not entry 0": 600,
+         "by words 19, one condition": 400, "by words 19, two conditions": 400, "by words 19, 2 of width 1": 100,
+         "by words 19, 3 of width 1": 1200, "by words 19, 3 of width 2": 90, "twins": 100000, "twins by the second": 5000}
 
 
 def main():
@@ -275,7 +318,8 @@ def main():
     noticed = notice_mistakes()
     tables = sum(1 for _ in family(long))
     counts = ", ".join(f"{name}: {tally[name]}" for name in ("lookup", "generate", "check", "walk", "measure"))
-    print(f"exhaustive good: {tables} tables, {tally['questions']} questions ({counts}), {tally['twins']} to twins; "
+    by_words = ", ".join(f"{what}: {tally[f'by words {number}']}" for what, number in (("tree", 0), ("6", 6), ("19", 19)))
+    print(f"exhaustive good: {tables} tables, by all words {by_words}; {tally['questions']} questions ({counts}), {tally['twins']} to twins; "
           f"{noticed} of {len(MISTAKES)} mistakes noticed")
 
 

@@ -10,6 +10,7 @@ import probe
 
 PRINTED = [0x10010002, 0x20050210, 0x00000002, 0x00000002, 0x30000001]
 CYCLES = [0x60010002, 0x20050210, 0x00000002, 0x00000002, 0x0000004D, 0x30000001]
+EXCLUDED = [0x10010001, 0x20000101, 0x00000001, 0x00000001, 0x40000000, 0x00000000, 0x00000000]     # an entry that excludes every word
 GOOD = [1, 1, 20, *PRINTED]         # eight words
 GOOD_LINE = "1 0 0 00000000 2 1"
 EMPTY = [1, 1, 0]                   # three words: a part of no bytes, the empty table
@@ -78,6 +79,8 @@ def parts_not_taken():
         yield f"{extra} parts, the last cut", bytes_of([1, 1 + extra, *table, *strange * extra])[:-1], ["stopped 0"]
     yield "a buffer after the buffer", asked(3, [], EIGHT[:2], EIGHT), ["3 1 0 00000000 | 11111111 22222222"]
     yield "a buffer after a table to size", asked(12, PRINTED, EIGHT), ["12 0 0 00000000 3 1"]
+    yield "a buffer after a table with an entry excluded", asked(12, EXCLUDED, EIGHT), ["12 19 0 00000000"]
+    yield "a buffer after a buffer for it", asked(3, EXCLUDED, EIGHT[:3], EIGHT), ["3 19 0 00000000 | 00000000 00000000 00000000"]
     yield "a buffer after an entry", asked(13, CYCLES, 0, EIGHT), ["13 0 0 00000000 77"]
     yield "a buffer after a value", asked(14, POINT, 0xF8, EIGHT), ["14 0 0 00000000 -8"]
     yield "a buffer after a long", asked(15, POINT, [0xFFFFFFF8, 0xFFFFFFFF], EIGHT), ["15 0 0 00000000 000000f8"]

@@ -13,6 +13,7 @@ PRINTED = [0x10010002, 0x20050210, 0x00000002, 0x00000002, 0x30000001]
 CYCLES = [0x60010002, 0x20050210, 0x00000002, 0x00000002, 0x0000004D, 0x30000001]
 TREE = [0x70020003, 0x80800003, 0xA0000000, 0x90000000]
 TWIN = [0x20000100, 0x00000001, 0x00000001]                                   # width 1, the entry 1: ambiguous if it is there twice
+EXCLUDED = [0x10010001, 0x20000101, 0x00000001, 0x00000001, 0x40000000, 0x00000000, 0x00000000]     # the same, but it excludes every word
 EIGHT = [0x11111111 * k for k in range(1, 9)]
 IMAGE_TABLE = [0x10010020, 0x20001010, 0x80000000, 0x00000000, 0x3000100F]     # width 32, a 16-bit entry 0---..
 IMAGE_TREE = [0x70200003, 0x8F800003, 0x90000000, 0xA0000000]
@@ -34,7 +35,7 @@ QUESTIONS = [
     ("list", IMAGE_TABLE, IMAGE_TREE, IMAGE, EIGHT[:4]), ("list", IMAGE_TABLE, IMAGE_TREE, IMAGE[:4], EIGHT[:1]),
     ("list", IMAGE_TABLE, IMAGE_TREE, IMAGE[:3], EIGHT[:2]), ("list", IMAGE_TABLE, IMAGE_TREE, b"", []),
     ("list", [], [], b"", []),
-    ("measure", PRINTED), ("measure", PRINTED[:4]), ("measure", [0x10020001, *TWIN, *TWIN]), ("measure", []),
+    ("measure", PRINTED), ("measure", PRINTED[:4]), ("measure", [0x10020001, *TWIN, *TWIN]), ("measure", EXCLUDED), ("measure", []),
     ("cycles", CYCLES, 0), ("cycles", CYCLES, 0xFFFFFFFF), ("cycles", CYCLES[:4], 0), ("cycles", PRINTED, 0), ("cycles", [], 0),
     ("signed", POINT, 0xF8), ("signed", POINT, 0x100), ("signed", 0, 0),
     ("stored", POINT, -8), ("stored", 0x30000020, -2 ** 63), ("stored", 0, 0),

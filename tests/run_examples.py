@@ -1,6 +1,6 @@
-"""The examples that document 01 lists under "Run" and under mktree, as far as trees are concerned, and tables with cycles. Every
-expected line is written out here or follows from a rule written here; the second implementation isn't used. Each good table is
-asked again as its twin of the other kind.
+"""The examples that document 01 lists under "Run" and under mktree, as far as trees are concerned, tables with cycles, and tables with
+entries that no word selects. Every expected line is written out here or follows from a rule written here; the second implementation
+isn't used. Each good table is asked again as its twin of the other kind.
 
 Usage: run_examples.py [path of probe [path of mktree]]. Exits with status 1 at the first difference.
 """
@@ -10,16 +10,18 @@ from collections import Counter
 import mktree
 import probe
 import twinned
-from second.examples import CYCLES_77, CYCLES_EXAMPLES, MARKED, PRINTED, PRINTED_TEXT, TREE_EXAMPLES, WITH_THIRD, WITH_THIRD_TREE, WORKED, \
-    ZERO_HIGH_ZERO_LOW
+from second.examples import COVERED_BY_ONE, COVERED_BY_TWO, CYCLES_77, CYCLES_EXAMPLES, LAST_COVERED, LAST_OF_256, MARKED, MIDDLE_COVERED, \
+    OWN_CONDITION, PRINTED, PRINTED_TEXT, REACH_EXAMPLES, SIZE_EXAMPLES, TREE_EXAMPLES, TWINS_AND_EXCLUDED, TWO_UNREACHED, WITH_THIRD, \
+    WITH_THIRD_TREE, WORKED, ZERO_HIGH_ZERO_LOW
 from second.twins import Twins
 
 TWINS = Twins(16)
 
 
 def check_lines(path, tally):
-    """Width 3 with 0-- and --0, and with 0-0 added; the printed and the worked table, also with cycles; walks by hand."""
-    examples = TREE_EXAMPLES + CYCLES_EXAMPLES
+    """Width 3 with 0-- and --0, and with 0-0 added; the printed and the worked table, also with cycles; walks by hand; entries that no word
+    selects."""
+    examples = TREE_EXAMPLES + SIZE_EXAMPLES + CYCLES_EXAMPLES + REACH_EXAMPLES
     lines = probe.ask(path, [question for _, question, _ in examples])
     for (name, question, expected), seen in zip(examples, lines, strict=True):
         probe.stop_at_difference(name, question, expected, seen)
@@ -72,7 +74,15 @@ def check_mktree(path, tally):
              ("no entries", probe.pack([0x10000020]), "0 70200001\n1 a0000000\n"),
              ("77 cycles", probe.pack(CYCLES_77), PRINTED_TEXT),
              ("257 entries said, with cycles", probe.pack([0x61010008] + all_of_eight_bits(256)[1:]), "refused 1 0 00000000\n"),
-             ("cut before the cycles", probe.pack(CYCLES_77[:4]), "refused 2 4 00000000\n")]
+             ("cut before the cycles", probe.pack(CYCLES_77[:4]), "refused 2 4 00000000\n"),
+             ("covered by one", probe.pack(COVERED_BY_ONE), "refused 19 0 00000000\n"),
+             ("covered by two", probe.pack(COVERED_BY_TWO), "refused 19 0 00000000\n"),
+             ("its own condition", probe.pack(OWN_CONDITION), "refused 19 0 00000000\n"),
+             ("the middle covered", probe.pack(MIDDLE_COVERED), "refused 19 1 00000000\n"),
+             ("the last covered", probe.pack(LAST_COVERED), "refused 19 2 00000000\n"),
+             ("the lower of two", probe.pack(TWO_UNREACHED), "refused 19 1 00000000\n"),
+             ("the last of 256", probe.pack(LAST_OF_256), "refused 19 255 00000000\n"),
+             ("6 before 19", probe.pack(TWINS_AND_EXCLUDED), "refused 6 0 00000001\n")]
     for name, data, expected in cases:
         mktree.stop_at_difference(name, data, expected, mktree.text_of(path, data))
         twinned.compare_text(path, TWINS, name, data, expected, tally)
@@ -85,7 +95,7 @@ def main():
     lines = check_lines(probe_path, tally)
     walked = check_worked(probe_path)
     printed = check_mktree(mktree_path, tally)
-    probe.require_enough(tally, {"twins": 55})
+    probe.require_enough(tally, {"twins": 120})
     print(f"run_examples good: {lines} lines of probe, {walked} marked words, {printed} inputs of mktree, {tally['twins']} of twins")
 
 

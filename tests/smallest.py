@@ -2,8 +2,9 @@
 
 An example is a command with a comment such as "# 2: wrong kind, field": the cause's number in document 01, and the fault. Each is run through the
 program, and held against three things: the line in the page, the second implementation, and what the table of causes says is
-returned and left in every lent buffer. A table with one of 1 to 4 is given to every other call that takes a table too. What is lent
-for reading only is not shown by probe, and not tested here. At the end all commands of the pages are run in a shell (doc_commands.py).
+returned and left in every lent buffer. A table with one of 1 to 4 is given to every other call that takes a table too. One with 19 is
+given to the others as well, which do not refuse it so. What is lent for reading only is not shown by probe, and not tested here. At the
+end all commands of the pages are run in a shell (doc_commands.py).
 
 Usage: smallest.py [path of probe [path of mktree]]. Exits with status 1 at the first difference.
 """
@@ -18,11 +19,13 @@ import doc_commands
 import mktree
 import probe
 from second.lines import line_of, mktree_text
+from second.reader import read
+from second.tree import nodes_of, written
 
 PAGE = "TABLES.md"
 
-# Document 01, "Causes, numbers, places": what each row lists in words, and the calls that give it; of cycles and operands document 02's No. 3
-# and No. 7. A comment in the page is a number and one of these.
+# Document 01, "Causes, numbers, places": what each row lists in words, and the calls that give it; of cycles, operands and entries that no
+# word selects document 02's No. 3, No. 7 and No. 8. A comment in the page is a number and one of these.
 FAULTS = {
     1: ["empty", "too long", "too long, reading", "first word, kind", "first word, spare bit", "first word, 257 entries", "first word, width 0",
         "first word, width 33", "bytes that are not whole words"],
@@ -55,18 +58,20 @@ FAULTS = {
     16: ["odd", "odd, step", "over 2,097,152 bytes"],
     17: ["no room at all", "earlier items"],
     18: ["no bytes", "one byte too few"],
+    19: ["covered by one entry", "covered by several together", "excluded by its own conditions", "the lowest of two", "generating", "sizing"],
 }
 
 # What is returned with the number: a place, a word, or neither.
-PLACES = {1, 2, 3, 4, 9, 12, 17}
+PLACES = {1, 2, 3, 4, 9, 12, 17, 19}
 WORDS = {6, 13}
 
-# Requests by number; the numbers that a call's own order allows ("generating 5, 6; lookup 7, 6; ..").
+# Requests by number; the numbers that a call's own order allows ("generating 5, 6; lookup 7, 6; .."; 19 "after 6").
 FAULTY_TABLE = [1, 2, 3, 4]
-ALLOWED = {1: FAULTY_TABLE, 2: FAULTY_TABLE + [7, 6], 3: FAULTY_TABLE + [5, 6], 4: [8, 7, 9], 5: FAULTY_TABLE + [10, 7, 6],
+ALLOWED = {1: FAULTY_TABLE, 2: FAULTY_TABLE + [7, 6], 3: FAULTY_TABLE + [5, 6, 19], 4: [8, 7, 9], 5: FAULTY_TABLE + [10, 7, 6],
            6: FAULTY_TABLE + [11, 12, 13], 7: FAULTY_TABLE + [14], 8: FAULTY_TABLE + [15, 16, 14], 9: FAULTY_TABLE + [15, 16, 14, 17],
-           10: [8, 7, 9], 12: FAULTY_TABLE + [5, 6], 13: FAULTY_TABLE + [11], 14: [2, 4, 12], 15: [2, 4, 12], 16: [2, 4, 12, 18]}
+           10: [8, 7, 9], 12: FAULTY_TABLE + [5, 6, 19], 13: FAULTY_TABLE + [11], 14: [2, 4, 12], 15: [2, 4, 12], 16: [2, 4, 12, 18]}
 GENERATE, FOR_C, DECODE, LIST, TEXT = 3, 4, 5, 9, 16
+UNREACHED = 19
 MOST_TREE_WORDS = 16384
 
 MARKS = [0x5EED0000 + at for at in range(40)]
@@ -174,7 +179,7 @@ def check_left(request, question, cause, line):
         if probe.bytes_left(line) != before:
             raise ValueError("the bytes are changed")
         return 1
-    cleared = cause == 5 or cause == 6 and request == GENERATE
+    cleared = cause in (5, 19) or cause == 6 and request == GENERATE
     if words_left(line) != ([0] * len(before) if cleared else before):
         raise ValueError("the buffer is not as it is to be")
     return 1
@@ -199,6 +204,7 @@ class Case:
     line: str = None            # what the page shows
     refusal: tuple = None       # number, place and word that mktree printed for the same table
     room: bool = False          # a listing that was refused with 17, now with room for every item
+    taken: bool = False         # of a table that is refused with 19: a call that does not judge that
 
 
 def buffers_of(question):
@@ -224,6 +230,17 @@ def table_questions(words):
             ("measure", words), ("cycles", words, 999)]
 
 
+def other_questions(words):
+    """The calls that do not judge whether an entry is selected by some word."""
+    tree = written(words[0] & 0xFF, nodes_of(read(words)))
+    asked = [("read", words), ("check", words, tree), ("step", words, tree, b"", 0), ("list", words, tree, b"", MARKS[:2])]
+    for word in (0, 1):
+        asked += [("lookup", words, word), ("decode", words, word, MARKS[:8])]
+    for entry in range(words[0] >> 16 & 0xFFF):
+        asked += [("cycles", words, entry), ("encode", words, entry, []), ("encode", words, entry, [1])]
+    return asked
+
+
 def mktree_cases(path, command, cause, data):
     seen = mktree.text_of(path, data)
     if seen != "".join(line + "\n" for line in command.printed):
@@ -240,7 +257,10 @@ def mktree_cases(path, command, cause, data):
     # mktree's buffer is as long as a tree may be, so sizing refuses what it does
     of_the_tree = [("generate", words, [0xFFFFFFFF] * MOST_TREE_WORDS), ("measure", words)]
     questions = table_questions(words) if cause in FAULTY_TABLE else of_the_tree
-    return [Case(command, cause, question, refusal=refusal) for question in questions]
+    cases = [Case(command, cause, question, refusal=refusal) for question in questions]
+    if cause == UNREACHED:
+        cases += [Case(command, cause, question, taken=True) for question in other_questions(words)]
+    return cases
 
 
 def check_c(command, cause):
@@ -263,6 +283,11 @@ def check_earlier(line, whole):
 def check_case(case, line):
     """1 if a lent buffer was looked at, else 0."""
     request = probe.request_of(case.question)[0]
+    if case.taken:
+        probe.stop_at_difference("a table refused with 19", case.question, line_of(case.question), line)
+        if int(line.split(" ")[1]) == UNREACHED:
+            raise ValueError(f"request {request} judges whether an entry is selected: {line}")
+        return 0
     if case.line is not None and line != case.line:
         raise ValueError(f"probe prints {line}")
     if case.refusal is None or case.cause in FAULTY_TABLE:

@@ -19,6 +19,16 @@
 
 #include "lending.h"
 
+/* Whether an entry of the table is named by no leaf of a tree that the checker accepts. */
+static int leaves_one_out(const uint32_t *table, const uint32_t *tree) {
+    uint8_t named[256] = {0};
+    for (uint32_t index = 1; index <= (tree[0] & 0xffff); index++)
+        if (tree[index] >> 28 == 9) named[tree[index] & 0xff] = 1;
+    for (uint32_t entry = 0; entry < (table[0] >> 16 & 0xfff); entry++)
+        if (!named[entry]) return 1;
+    return 0;
+}
+
 /* ------------------------------------------------------------------------- stand-in for the library */
 
 #ifdef STAND_IN
@@ -39,6 +49,7 @@ uint64_t kilnumber_check(const uint32_t *table, size_t table_words, const uint32
     if (WRONG == 8 && table_words > 0) ((volatile uint32_t *)(uintptr_t)table)[0] ^= 1; /* 8: the table is written */
     if (WRONG == 9 && tree_words > 0) ((volatile uint32_t *)(uintptr_t)tree)[0] ^= 1;   /* 9: the tree is written */
     if (WRONG == 10 && ((const volatile uint32_t *)tree)[tree_words] == 0) return 0;    /* 10: a word after it is read */
+    if (WRONG == 11 && number == 0 && leaves_one_out(table, tree)) number = 19;         /* 11: 19 as in generating */
     return number << 32 | place;
 }
 #endif
@@ -46,7 +57,7 @@ uint64_t kilnumber_check(const uint32_t *table, size_t table_words, const uint32
 /* ------------------------------------------------------------------------- the comparison */
 
 static struct room table_room, tree_room;
-static unsigned by_number[18], of_kind_6;
+static unsigned by_number[18], of_kind_6, unreached; /* the last: yes, though an entry is selected by no word */
 
 static void compare(const uint32_t *table, size_t table_words, const uint32_t *tree, size_t tree_words, uint32_t number,
                     uint32_t place) {
@@ -62,6 +73,7 @@ static void compare(const uint32_t *table, size_t table_words, const uint32_t *t
     require_unchanged(lent_tree, tree, tree_words);
     by_number[number]++;
     of_kind_6 += number == 0 && table[0] >> 28 == 6;
+    unreached += number == 0 && leaves_one_out(table, tree);
 }
 
 int main(int arguments, char **argument) {
@@ -91,6 +103,7 @@ int main(int arguments, char **argument) {
         if (by_number[numbers[one]] < 50) stop("too few of a number");
     }
     if (of_kind_6 < 50) stop("too few of kind 6");
+    if (unreached < 50) stop("too few with an entry that is not reached");
     free(words);
     return 0;
 }

@@ -4,7 +4,8 @@
  *
  * The table: width 32, entry 0 of 16 bits `1...`, entry 1 of 32 bits `01..`. Its tree tests bit 31, then bit 30. The one with cycles:
  * the same, 77 and 65,535 of them.
- * The ambiguous one: width 3, `1--` and `--1`. The large one: width 32, one entry whose condition looks at every bit.
+ * The ambiguous one: width 3, `1--` and `--1`. The large one: width 32, one entry whose condition looks at every bit. The covered one:
+ * width 1, `0`, `-` and `1`, so that no word selects entry 1.
  */
 
 #include <stdio.h>
@@ -20,6 +21,8 @@ static const uint32_t with_cycles[] = {0x60020020, 0x20001010, 0x80000000, 0x800
                                        0x20012010, 0xc0000000, 0x40000000, 65535, 0x3000001e};
 #define TREE_WORDS (sizeof tree_bytes / 4)
 static const uint32_t ambiguous[] = {0x10020003, 0x20000310, 4, 4, 0x30000002, 0x20000310, 1, 1, 0x30000102};
+static const uint32_t covered[] = {0x10030001, 0x20000100, 1, 0, 0x20000110, 0, 0, 0x30000001, 0x20000100, 1, 1};
+static const uint32_t covered_tree[] = {0x70010003, 0x80000003, 0x90000000, 0x90000002};
 static const uint32_t large[] = {0x10010020, 0x20002011, 0, 0, 0x30000020, 0x40000002, 1, 0, 0x50000000, 1, 0, 0x50000000, 0xffffffff, 1};
 
 static unsigned compared;
@@ -36,8 +39,8 @@ static void names(void) {
                                    KILNUMBER_TABLE_FIELD, KILNUMBER_TREE_SIZE, KILNUMBER_AMBIGUOUS, KILNUMBER_HIGH_WORD,
                                    KILNUMBER_TREE_HEADER, KILNUMBER_DAMAGED_NODE, KILNUMBER_NO_ENTRY, KILNUMBER_OUT_OF_RANGE,
                                    KILNUMBER_WRONG_TREE, KILNUMBER_NO_IMAGE_TABLE, KILNUMBER_BAD_IMAGE, KILNUMBER_NO_ROOM,
-                                   KILNUMBER_NO_TEXT_ROOM};
-    static const int numbers[] = {0, 1, 2, 3, 4, 5, 6, 7, 8, 9, 11, 12, 14, 15, 16, 17, 18};
+                                   KILNUMBER_NO_TEXT_ROOM, KILNUMBER_UNREACHED};
+    static const int numbers[] = {0, 1, 2, 3, 4, 5, 6, 7, 8, 9, 11, 12, 14, 15, 16, 17, 18, 19};
     for (size_t at = 0; at < sizeof numbers / sizeof numbers[0]; at++)
         expect("a refusal's number", (uint64_t)refusals[at], (uint64_t)numbers[at]);
     expect("an item's kind", kilnumber_item_kind(0xc2a00005), KILNUMBER_INSTRUCTION);
@@ -84,6 +87,9 @@ static void size(void) {
     result = kilnumber_measure(table, 8);
     expect("a table that ends early", kilnumber_number(result), KILNUMBER_TABLE_WORD);
     expect("its place", kilnumber_list_place(result), 8);
+    result = kilnumber_measure(covered, 11);
+    expect("number 19", kilnumber_number(result), KILNUMBER_UNREACHED);
+    expect("the entry that no word selects", kilnumber_list_place(result), 1);
 }
 
 static void check(const uint32_t *tree) {
@@ -91,6 +97,7 @@ static void check(const uint32_t *tree) {
     memcpy(other, tree, sizeof other);
     other[5] = 0x90000001; /* well formed, but words with bit 31 select entry 0 */
     expect("yes", kilnumber_check(table, 9, tree, TREE_WORDS), 0);
+    expect("yes, though an entry is selected by no word", kilnumber_check(covered, 11, covered_tree, 4), 0);
     expect("no", kilnumber_number(kilnumber_check(table, 9, other, TREE_WORDS)), KILNUMBER_WRONG_TREE);
     expect("the walk of it goes on", kilnumber_walk_words(other, TREE_WORDS, 0x80000000), 0x10001);
     uint64_t cut = kilnumber_check(table, 8, tree, TREE_WORDS);

@@ -1,6 +1,6 @@
 """Writes tables with what sizing must answer, for measure_test.c and the fuzz, made by the second implementation.
 
-Usage: make_sizes.py file. 32-bit words, low byte first: how many cases, then for each the answer's 64 bits (lower half, upper half), six
+Usage: make_sizes.py file. 32-bit words, low byte first: how many cases, then for each the answer's 64 bits (lower half, upper half), nine
 words that only wrong stand-ins look at (made_of has them), and the table as a run (how many words, then the words).
 """
 
@@ -13,9 +13,10 @@ from pathlib import Path
 ROOT = Path(__file__).resolve().parent.parent.parent
 sys.path.insert(0, str(ROOT / "tests"))
 
+from reached import reached
 from second import examples, tables
 from second.reader import Refusal, read
-from second.tree import MOST_TREE_WORDS, Cell, Making, Test, TooLarge, conflict_word
+from second.tree import MOST_TREE_WORDS, Cell, Making, Test, TooLarge, conflict_word, unnamed_entries
 
 SEED = 23
 USUAL, USUAL_NODES = 620, 120       # larger trees are made on purpose only, because Python is slow
@@ -36,28 +37,32 @@ def nodes_within(table, most):
     return making.nodes, True
 
 
-def made_of(nodes):
+def made_of(table, nodes):
     """Of the nodes within the limit: how many, the most tests on a path to a leaf, the tests of the first leaf and of the last one, whether
-    there is a conflict, and its word."""
+    there is a conflict, and its word; how many entries no leaf names, the lowest and the highest of them."""
     tests = [len(node.cell.fixed) for node in nodes if not isinstance(node, Test)]
-    word = conflict_word(nodes)
-    return [len(nodes), max(tests), tests[0], tests[-1], int(word is not None), word or 0]
+    word, unnamed = conflict_word(nodes), unnamed_entries(table, nodes)
+    lowest, highest = (unnamed[0], unnamed[-1]) if unnamed else (0, 0)
+    return [len(nodes), max(tests), tests[0], tests[-1], int(word is not None), word or 0, len(unnamed), lowest, highest]
 
 
 def size(words, most=MOST_TREE_WORDS - 1):
     """The answer's 64 bits, and what wrong stand-ins look at. With another `most`: None if there are more nodes."""
     table = read(words)
     if isinstance(table, Refusal):
-        return table.number << 32 | table.place, [0] * 6
+        return table.number << 32 | table.place, [0] * 9
     nodes, whole = nodes_within(table, most)
     if not whole and most < MOST_TREE_WORDS - 1:
         return None
-    made = made_of(nodes)
+    made = made_of(table, nodes)
     # "The tree limit applies: over it the answer is 5, then 6 as in generating."
     if not whole:
         return 5 << 32, made
     if made[4]:
         return 6 << 32 | made[5], made
+    # No. 8: "19, with the lowest such entry as place, after 6"
+    if made[6]:
+        return 19 << 32 | made[7], made
     # "the number of nodes that generating writes and the greatest number of tests on a path to any leaf"
     return made[1] << 16 | made[0], made
 
@@ -74,7 +79,8 @@ def by_hand(rng):
     """The tables of document 01 and of examples.py, those without entries, and those of data/."""
     yield from (examples.PRINTED, examples.EVERY_KIND, examples.WORKED, examples.ZERO_HIGH_ZERO_LOW, examples.WITH_THIRD,
                 examples.MORE_MASK_BITS, examples.SHORT, examples.SHORT_AND_LONG, examples.EIGHT_UNMATCHING, examples.EIGHT_CONDITIONS,
-                examples.WORKED_CYCLES, examples.TWINS_CYCLES)
+                examples.WORKED_CYCLES, examples.TWINS_CYCLES, examples.COVERED_BY_ONE, examples.COVERED_BY_TWO, examples.MIDDLE_COVERED,
+                examples.LAST_COVERED, examples.TWINS_AND_EXCLUDED, examples.LAST_OF_256)
     yield []
     yield from ([tables.first_word(0, width, kind)] for kind in (tables.PLAIN, tables.WITH_CYCLES) for width in range(34))
     yield from data_tables()
@@ -94,7 +100,7 @@ def laid_out(rng, plan):
 
 
 def usual(rng):
-    """Tables of every width; many are ambiguous."""
+    """Tables of every width; many are ambiguous. One with entries that no word selects comes again without them."""
     made = 0
     while made < USUAL:
         words = laid_out(rng, some_plan(rng, 1 + made % 32)).words
@@ -102,6 +108,8 @@ def usual(rng):
         if its_size is not None:
             made += 1
             yield words, its_size
+            if its_size[0] >> 32 == 19:
+                yield reached(words), size(reached(words))
 
 
 def faulty(rng):
@@ -115,8 +123,15 @@ def faulty(rng):
         yield tables.loose_words(rng)
 
 
+def with_dead(rng, plan, at):
+    """The plan with an entry more, at this place, that excludes every word: the tree's tests stay."""
+    dead = tables.everywhere_entry(rng, plan.width, [((0, 0), [])])
+    return tables.TablePlan(plan.width, [*plan.entries[:at], dead, *plan.entries[at:]])
+
+
 def at_the_limit(rng):
-    """Full trees; of 16,384 words, one test over, and far over; with one entry, and with two that make every leaf a conflict."""
+    """Full trees; of 16,384 words, one test over, and far over; with one entry, and with two that make every leaf a conflict; and these
+    with an entry that no word selects."""
     for depth in range(1, 13):
         yield tables.full_tree_plan(rng, rng.randint(depth, 32), depth)
     for width, twice in ((13, False), (20, False), (32, True)):
@@ -124,6 +139,10 @@ def at_the_limit(rng):
     for width, twice in ((14, True), (20, False), (32, False), (32, True)):
         yield tables.full_tree_plan(rng, width, 13, one_more=True, twice=twice)
     yield tables.full_tree_plan(rng, 32, 32)
+    for at in (0, 1):
+        yield with_dead(rng, tables.full_tree_plan(rng, 13, 13), at)
+        yield with_dead(rng, tables.full_tree_plan(rng, 32, 13, twice=True), at)
+        yield with_dead(rng, tables.full_tree_plan(rng, 20, 13, one_more=True), at)
 
 
 def large(rng):

@@ -11,6 +11,7 @@ from pathlib import Path
 
 sys.path.insert(0, str(Path(__file__).resolve().parent.parent))
 
+from reached import reached
 from second import examples, tables
 from second.reader import Refusal
 from second.tree import generate
@@ -34,6 +35,8 @@ def tables_of(rng):
 def trees_of(rng):
     for words in tables_of(rng):
         outcome, after = generate(words, [0] * 16384)
+        if isinstance(outcome, Refusal) and outcome.number == 19:
+            outcome, after = generate(reached(words), [0] * 16384)
         if not isinstance(outcome, Refusal):
             yield after[:outcome]
 

@@ -24,7 +24,7 @@
 /* The answer for a table; and of the nodes within the limit what wrong stand-ins look at (make_sizes.py, made_of). */
 struct size {
     uint64_t answer;
-    uint32_t nodes, tests, first_tests, last_tests, is_clash, clash;
+    uint32_t nodes, tests, first_tests, last_tests, is_clash, clash, unnamed, lowest, highest;
 };
 
 /* ------------------------------------------------------------------------- stand-in for the library */
@@ -56,14 +56,27 @@ uint64_t kilnumber_measure(const uint32_t *table, size_t table_words) {
     if (WRONG == 16 && table_words > 0) ((volatile uint32_t *)(uintptr_t)table)[table_words - 1] ^= 1; /* 16: the table is written */
     if (WRONG == 17 && ((const volatile uint32_t *)table)[table_words] == 0) return 0;      /* 17: a word after it is read */
     if (WRONG == 18 && ((const volatile uint32_t *)table)[-1] == 0) return 0;               /* 18: a word before it is read */
+    if (WRONG == 19 && number == 19) return (uint64_t)is.tests << 16 | is.nodes;            /* 19: 19 is not looked for */
+    if (WRONG == 20 && number == 19) return number << 32 | (table[0] >> 16 & 0xfff);        /* 20: the number of entries as place */
+    if (WRONG == 21 && number == 6 && is.unnamed > 0) return (uint64_t)19 << 32 | is.lowest; /* 21: 19 before 6 */
+    if (WRONG == 22 && number == 19) return number << 32;                                   /* 22: without the entry */
+    if (WRONG == 23 && number == 5 && is.unnamed > 0) return (uint64_t)19 << 32 | is.lowest; /* 23: 19 before 5 */
+    if (WRONG == 24 && number == 19) return number << 32 | is.highest;                      /* 24: the highest such entry */
+    if (WRONG == 25 && number == 19) return number << 32 | is.unnamed;                      /* 25: how many there are */
+    if (WRONG == 26 && number == 19) return number << 32 | low << 48;                       /* 26: the entry where a walk has a place */
+    if (WRONG == 27 && number == 19) return (uint64_t)6 << 32 | low;                        /* 27: 19 is taken for 6 */
+    if (WRONG == 28 && number == 19) return number << 32 | (low + 1);                       /* 28: entries counted from 1 */
     return is.answer;
 }
 #endif
 
 /* ------------------------------------------------------------------------- the comparison */
 
+#define UNREACHED 19u
+
 static struct room room;
-static unsigned by_number[7], of_kind_6, at_limit, over_and_clash;
+static unsigned by_number[UNREACHED + 1], of_kind_6, at_limit, over_and_clash;
+static unsigned first, middle, last, unreached_at_limit, clash_and_unreached, over_and_unreached; /* the first three: places of 19 */
 
 static void compare(const uint32_t *table, size_t table_words, uint64_t expected, int at_start) {
     const uint32_t *lent = lend(room, table, table_words, at_start);
@@ -72,13 +85,22 @@ static void compare(const uint32_t *table, size_t table_words, uint64_t expected
     int parts_right = kilnumber_number(seen) == number;
     if (number == 0) parts_right &= kilnumber_nodes(seen) == low % 65536 && kilnumber_tests(seen) == low / 65536;
     if (number == 6) parts_right &= kilnumber_word(seen) == low;
-    if (number >= 1 && number <= 4) parts_right &= kilnumber_list_place(seen) == low;
+    if ((number >= 1 && number <= 4) || number == UNREACHED) parts_right &= kilnumber_list_place(seen) == low;
     if (seen != expected || !parts_right) {
         printf("difference: %zu table words: expected %016llx, seen %016llx\n", table_words, (unsigned long long)expected,
                (unsigned long long)seen);
         exit(1);
     }
     require_unchanged(lent, table, table_words);
+}
+
+static void count_unreached(uint32_t number, uint32_t entries, struct size size) {
+    first += number == UNREACHED && size.lowest == 0 && entries > 1;
+    middle += number == UNREACHED && size.lowest > 0 && size.lowest + 1 < entries;
+    last += number == UNREACHED && size.lowest > 0 && size.lowest + 1 == entries;
+    unreached_at_limit += number == UNREACHED && size.nodes == MOST_NODES;
+    clash_and_unreached += number == 6 && size.unnamed > 0;
+    over_and_unreached += number == 5 && size.unnamed > 0;
 }
 
 static void try_table(const uint32_t *table, size_t table_words, struct size size) {
@@ -91,6 +113,7 @@ static void try_table(const uint32_t *table, size_t table_words, struct size siz
     of_kind_6 += size.answer >> 32 == 0 && table[0] >> 28 == 6;
     at_limit += size.answer >> 32 == 0 && size.nodes == MOST_NODES;
     over_and_clash += size.answer >> 32 == 5 && size.is_clash;
+    count_unreached((uint32_t)(size.answer >> 32), table_words == 0 ? 0 : table[0] >> 16 & 0xfff, size);
 }
 
 int main(int arguments, char **argument) {
@@ -99,22 +122,25 @@ int main(int arguments, char **argument) {
     uint32_t *words = read_words(argument[1], &count);
     room = make_room();
     for (uint32_t turn = 0; turn < words[0]; turn++) {
-        if (at + 9 > count) stop("the file is not whole");
+        if (at + 12 > count) stop("the file is not whole");
         const uint32_t *from = words + at;
-        struct size size = {(uint64_t)from[1] << 32 | from[0], from[2], from[3], from[4], from[5], from[6], from[7]};
-        uint32_t table_words = from[8];
-        at += 9 + (size_t)table_words;
-        if (from[1] > 6 || table_words > MOST_WORDS || at > count) stop("the file is not whole");
-        try_table(from + 9, table_words, size);
+        struct size size = {(uint64_t)from[1] << 32 | from[0], from[2], from[3], from[4], from[5], from[6], from[7], from[8], from[9],
+                            from[10]};
+        uint32_t table_words = from[11];
+        at += 12 + (size_t)table_words;
+        if (from[1] > UNREACHED || table_words > MOST_WORDS || at > count) stop("the file is not whole");
+        try_table(from + 12, table_words, size);
     }
     if (at != count) stop("the file is not whole");
     if (words[0] < 1500) stop("too few tables");
     printf("measure_test good: %u tables;", (unsigned)words[0]);
-    for (size_t number = 0; number <= 6; number++) {
-        printf(" number %zu: %u%s", number, by_number[number], number < 6 ? "," : "\n");
+    for (size_t number = 0; number <= UNREACHED; number = number == 6 ? UNREACHED : number + 1) {
+        printf(" number %zu: %u%s", number, by_number[number], number < UNREACHED ? "," : "\n");
         if (by_number[number] < (number == 5 ? 5 : 50)) stop("too few of a number");
     }
     if (at_limit < 2 || over_and_clash < 2) stop("too few at the limit");
+    if (first < 30 || middle < 30 || last < 30) stop("too few places of 19");
+    if (unreached_at_limit < 2 || over_and_unreached < 2 || clash_and_unreached < 20) stop("too few with an entry that is not reached");
     if (of_kind_6 < 100) stop("too few of kind 6");
     free(words);
     return 0;

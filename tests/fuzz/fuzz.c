@@ -81,9 +81,9 @@ static void require_same(const void *lent, const void *from, size_t bytes) {
 static unsigned wrong; /* a check that is left out, or one of these */
 enum {
     LEAF_COUNTED = NUMBER_END + 1, READS_PAST, WRITES_TREE, MASK_FROM_ONE, MASK_WHEN_REFUSED, MASK_READS_PAST,
-    ITEM_AFTER, PLACE_AFTER, CHECK_IS_YES, CHECK_PLACE,
-    SIZE_SWAPPED, SIZE_IN_WORDS, SIZE_LEAF_COUNTED, SIZE_NUMBER_ABOVE, SIZE_NO_WORD, SIZE_NO_PLACE, SIZE_LIMIT_LOWER, SIZE_READS_PAST,
-    SIZE_READS_BEFORE, SIZE_WRITES_TABLE,
+    ITEM_AFTER, PLACE_AFTER, LIST_REACH, CHECK_IS_YES, CHECK_PLACE, CHECK_REACH,
+    SIZE_SWAPPED, SIZE_IN_WORDS, SIZE_LEAF_COUNTED, SIZE_NUMBER_ABOVE, SIZE_NO_WORD, SIZE_NO_PLACE, SIZE_NO_ENTRY, SIZE_ENTRY_COUNT,
+    SIZE_ENTRY_ABOVE, SIZE_LIMIT_LOWER, SIZE_READS_PAST, SIZE_READS_BEFORE, SIZE_WRITES_TABLE,
     CYCLES_OF_FIRST, CYCLES_OF_NEXT, CYCLES_LOW_BYTE, CYCLES_ENTRY_BYTE, CYCLES_AT_COUNT, CYCLES_NUMBER_ABOVE, CYCLES_NO_PLACE,
     CYCLES_PLACE_OF_11, CYCLES_READS_PAST, CYCLES_READS_BEFORE, CYCLES_WRITES_TABLE,
     SIGN_LEFT_OUT, SIGN_IN_ALL, NUMBER_ABOVE, NUMBER_PLACE, LOWEST_JUDGED, RANGE_FIRST, STORED_LOW_HALF, STORED_SIGN_IN_ALL,
@@ -95,6 +95,16 @@ enum {
 static int is_wrong_size(void) { return (wrong > LIST_END && wrong < SIZE_END) || (wrong >= SIZE_SWAPPED && wrong < CYCLES_OF_FIRST); }
 static int is_wrong_cycles(void) { return (wrong > SIZE_END && wrong < CYCLES_END) || (wrong >= CYCLES_OF_FIRST && wrong < SIGN_LEFT_OUT); }
 static int is_wrong_operand(void) { return (wrong > CYCLES_END && wrong < NUMBER_END) || wrong >= SIGN_LEFT_OUT; }
+
+/* Whether an entry of the table is named by no leaf of a tree that the checker accepts. */
+static int leaves_one_out(const uint32_t *table, const uint32_t *tree) {
+    uint8_t named[256] = {0};
+    for (uint32_t index = 1; index <= (tree[0] & 0xffff); index++)
+        if (tree[index] >> 28 == 9) named[tree[index] & 0xff] = 1;
+    for (uint32_t entry = 0; entry < (table[0] >> 16 & 0xfff); entry++)
+        if (!named[entry]) return 1;
+    return 0;
+}
 
 #ifdef STAND_IN
 uint64_t kilnumber_walk(const uint8_t *tree, size_t length, uint32_t word) {
@@ -125,6 +135,9 @@ uint64_t kilnumber_measure(const uint32_t *table, size_t table_words) {
     if (wrong == SIZE_NUMBER_ABOVE) result = number << 40 | (result & 0xffffffff);
     if (wrong == SIZE_NO_WORD && number == 6) result = number << 32;
     if (wrong == SIZE_NO_PLACE && number >= 1 && number <= 4) result = number << 32;
+    if (wrong == SIZE_NO_ENTRY && number == 19) result = number << 32;
+    if (wrong == SIZE_ENTRY_COUNT && number == 19) result = refused_list(19, sizing.table.entries);
+    if (wrong == SIZE_ENTRY_ABOVE && number == 19) result = number << 32 | (result & 0xff) << 48;
     if (wrong == SIZE_LIMIT_LOWER && sizing.nodes + 1 >= MOST_TREE_WORDS) result = refused_list(5, 0);
     return result;
 }
@@ -133,6 +146,7 @@ uint64_t kilnumber_check(const uint32_t *table, size_t table_words, const uint32
     uint64_t result = reference_check(table, table_words, tree, tree_words, (enum check)wrong);
     if (wrong == CHECK_IS_YES && result >> 32 == 14) result = 0;
     if (wrong == CHECK_PLACE && result >> 32 <= 4) result = result >> 32 << 32;
+    if (wrong == CHECK_REACH && result == 0 && leaves_one_out(table, tree)) result = refused_list(19, 0);
     return result;
 }
 
@@ -143,6 +157,7 @@ uint64_t kilnumber_list(const uint32_t *table, size_t table_words, const uint32_
     uint64_t result = reference_list(lent, items, (enum check)wrong, &stopped_by);
     if (wrong == ITEM_AFTER && result >> 32 == 0 && result < room) items[result] = 0;
     if (wrong == PLACE_AFTER && result >> 32 == 17) result++;
+    if (wrong == LIST_REACH && result >> 32 == 0 && leaves_one_out(table, tree)) result = refused_list(19, 0);
     return result;
 }
 
@@ -222,9 +237,9 @@ struct input {
 
 static struct input kept[MOST_KEPT];
 static size_t kept_count;
-static uint64_t walks, listings, sizes, asked, by_number[10], by_list_number[18], by_check_number[18], by_size_number[7],
+static uint64_t walks, listings, sizes, asked, by_number[10], by_list_number[18], by_check_number[18], by_size_number[20],
     by_cycles_number[12], operands, by_operand_number[19], by_check[NUMBER_END + 1], listed_of_6, sized_of_6, listed_with_form,
-    sized_with_form; /* the last four: without refusal, of kind 6, with a form */
+    sized_with_form, listed_unreached; /* the last five: without refusal, of kind 6, with a form, with an entry that no word selects */
 
 static void keep(const uint8_t *bytes, size_t length) {
     if (kept_count == MOST_KEPT) return;
@@ -535,6 +550,7 @@ static void compare_listing(struct listing *listing, int too_long) {
     by_list_number[expected >> 32]++;
     listed_of_6 += expected >> 32 == 0 && lent.table[0] >> 28 == 6;
     listed_with_form += expected >> 32 == 0 && has_form(lent.table, lent.table_words);
+    listed_unreached += expected >> 32 == 0 && leaves_one_out(lent.table, lent.tree);
     by_check[stopped_by]++;
     /* What is altered further of a table at fault is mostly at the same fault. */
     int good_table = expected >> 32 == 0 || expected >> 32 >= 14;
@@ -662,10 +678,11 @@ static void compare_size(const uint32_t *words, size_t count) {
     by_size_number[expected >> 32]++;
     sized_of_6 += expected >> 32 == 0 && words[0] >> 28 == 6;
     sized_with_form += expected >> 32 == 0 && has_form(words, count);
-    for (int check = LIST_END + 1; check < SIZE_END; check++) by_check[check] += sizing.table.came >> check & 1;
+    for (int check = LIST_END + 1; check < SIZE_END; check++) by_check[check] += sizing.table.came >> (check - WALK_END) & 1;
     /* As with listings, a table at fault is not altered further. Nor is one with a large tree, which takes long. */
-    if ((expected >> 32 != 0 && expected >> 32 != 6) || sizing.nodes > MOST_KEPT_NODES) return;
-    enum check end = expected >> 32 == 0 ? SIZE_END : CONFLICT;
+    uint64_t number = expected >> 32;
+    if ((number != 0 && number < 6) || sizing.nodes > MOST_KEPT_NODES) return;
+    enum check end = number == 0 ? SIZE_END : number == 6 ? CONFLICT : UNREACHED;
     if (is_new(end, 4 * sizing.tests + sizing.table.entries % 4, digits_of(sizing.nodes))) keep_table(words, count);
 }
 
@@ -702,7 +719,7 @@ static void compare_cycles(const uint32_t *words, size_t count) {
             exit(1);
         }
         by_cycles_number[expected >> 32]++;
-        for (int check = SIZE_END + 1; check < CYCLES_END; check++) by_check[check] += table.came >> check & 1;
+        for (int check = SIZE_END + 1; check < CYCLES_END; check++) by_check[check] += table.came >> (check - WALK_END) & 1;
         if (expected >> 32 == 0) new |= is_new(CYCLES_END, table.entries, 2 * digits_of((uint32_t)expected) + table.has_cycles);
     }
     require_same(lent, words, 4 * count);
@@ -851,9 +868,9 @@ static void read_lists(const char *name) {
 static void read_sizes(const char *name) {
     size_t count, at = 1;
     uint32_t *words = read_words(name, &count);
-    for (uint32_t turn = 0; turn < words[0] && at + 8 < count; turn++, at += 9 + words[at + 8]) {
-        uint32_t number = words[at + 1], table_words = words[at + 8];
-        if ((number == 0 || number >= 5) && table_words <= MOST_ALTERED_WORDS) keep_table(words + at + 9, table_words);
+    for (uint32_t turn = 0; turn < words[0] && at + 11 < count; turn++, at += 12 + words[at + 11]) {
+        uint32_t number = words[at + 1], table_words = words[at + 11];
+        if ((number == 0 || number >= 5) && table_words <= MOST_ALTERED_WORDS) keep_table(words + at + 12, table_words);
     }
     if (at != count || table_count < 500) stop("the file of sizes is not whole");
     free(words);
@@ -878,7 +895,7 @@ static void require_each(uint64_t least) {
         }
     for (int number = 0; number <= 14; number = number == 4 ? 14 : number + 1)
         if (by_check_number[number] < least) stop("too few checks of a number");
-    for (int number = 0; number <= 6; number++)
+    for (int number = 0; number <= 19; number = number == 6 ? 19 : number + 1)
         if (by_size_number[number] < least) stop("too few sizes of a number");
     for (int number = 0; number <= 11; number = number == 4 ? 11 : number + 1)
         if (by_cycles_number[number] < least) stop("too few cycles of a number");
@@ -887,6 +904,7 @@ static void require_each(uint64_t least) {
         if (by_operand_number[operand_numbers[at]] < 100 * least) stop("too few operands of a number");
     if (listed_of_6 < 10 * least || sized_of_6 < 10 * least) stop("too few tables of kind 6");
     if (listed_with_form < 10 * least || sized_with_form < 10 * least) stop("too few tables with a form");
+    if (listed_unreached < 10 * least || by_size_number[19] < 10 * least) stop("too few tables with an entry that is not reached");
 }
 
 int main(int arguments, char **argument) {
@@ -913,19 +931,20 @@ int main(int arguments, char **argument) {
     if (wrong == 0 || is_wrong_operand()) fuzz_operands(strtoull(argument[8], NULL, 10));
     double ended = seconds();
     if (arguments < 10) require_each(10);
-    printf("fuzz: walks finished: %llu, number 7: %llu, 8: %llu, 9: %llu; listings whole: %llu (of kind 6: %llu, with a form: %llu), "
-           "number 1 to 4: %llu, 14: %llu, 15: %llu, 16: %llu, 17: %llu\n",
+    printf("fuzz: walks finished: %llu, number 7: %llu, 8: %llu, 9: %llu; listings whole: %llu (of kind 6: %llu, with a form: %llu, "
+           "with an entry not reached: %llu), number 1 to 4: %llu, 14: %llu, 15: %llu, 16: %llu, 17: %llu\n",
            (unsigned long long)by_number[0], (unsigned long long)by_number[7], (unsigned long long)by_number[8],
            (unsigned long long)by_number[9], (unsigned long long)by_list_number[0],
-           (unsigned long long)listed_of_6, (unsigned long long)listed_with_form,
+           (unsigned long long)listed_of_6, (unsigned long long)listed_with_form, (unsigned long long)listed_unreached,
            (unsigned long long)(by_list_number[1] + by_list_number[2] + by_list_number[3] + by_list_number[4]),
            (unsigned long long)by_list_number[14], (unsigned long long)by_list_number[15], (unsigned long long)by_list_number[16],
            (unsigned long long)by_list_number[17]);
-    printf("fuzz: sizes: %llu (of kind 6: %llu, with a form: %llu), number 1 to 4: %llu, 5: %llu, 6: %llu; cycles: %llu, "
+    printf("fuzz: sizes: %llu (of kind 6: %llu, with a form: %llu), number 1 to 4: %llu, 5: %llu, 6: %llu, 19: %llu; cycles: %llu, "
            "number 1 to 4: %llu, 11: %llu\n",
            (unsigned long long)by_size_number[0], (unsigned long long)sized_of_6, (unsigned long long)sized_with_form,
            (unsigned long long)(by_size_number[1] + by_size_number[2] + by_size_number[3] + by_size_number[4]),
-           (unsigned long long)by_size_number[5], (unsigned long long)by_size_number[6], (unsigned long long)by_cycles_number[0],
+           (unsigned long long)by_size_number[5], (unsigned long long)by_size_number[6], (unsigned long long)by_size_number[19],
+           (unsigned long long)by_cycles_number[0],
            (unsigned long long)(by_cycles_number[1] + by_cycles_number[2] + by_cycles_number[3] + by_cycles_number[4]),
            (unsigned long long)by_cycles_number[11]);
     printf("fuzz: operands: %llu, number 2: %llu, 4: %llu, 12: %llu, 18: %llu\n", (unsigned long long)by_operand_number[0],

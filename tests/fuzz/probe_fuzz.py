@@ -123,8 +123,9 @@ def some_request(rng):
 
 
 def some_table(rng):
-    """Of kind 1, or of kind 6, now and then with too many cycles."""
-    table = rng.choice([examples.WORKED, examples.WITH_THIRD, examples.EVERY_KIND, examples.SHORT_AND_LONG])
+    """Of kind 1, or of kind 6, now and then with too many cycles; some with an entry that no word selects."""
+    table = rng.choice([examples.WORKED, examples.WITH_THIRD, examples.EVERY_KIND, examples.SHORT_AND_LONG, examples.MIDDLE_COVERED,
+                        examples.LAST_COVERED, examples.EIGHT_CONDITIONS])
     if rng.random() < 0.5:
         return table
     twin = twin_of(rng, table)
@@ -138,7 +139,7 @@ def some_operand(rng):
     width = rng.choice([1, 8, 8, 16, 32, rng.randrange(36)])
     field = 3 << 28 | rng.choice([0, 1 << 24, 2 << 24 | rng.randrange(18) << 16]) | rng.getrandbits(8) << 8 | width
     field ^= rng.choice([0, 0, 0, 1 << rng.randrange(32)])
-    value = rng.choice([0, rng.getrandbits(width), rng.getrandbits(32)])
+    value = rng.choice([0, rng.getrandbits(min(width, 32)), rng.getrandbits(32)])
     number = rng.choice([-1, 1]) * rng.choice([value, rng.getrandbits(8), rng.getrandbits(63)])
     return rng.choice([("signed", field, value), ("stored", field, number), ("text", field, value, rng.randbytes(rng.randrange(40)))])
 
@@ -150,8 +151,8 @@ def some_question(rng):
         return rng.choice(QUESTIONS)
     table = some_table(rng)
     asked = "cycles", table, rng.choice([0, 0, 0, 1, 7, rng.getrandbits(32)])
-    return rng.choice([("lookup", table, rng.getrandbits(8)), ("generate", table, [7] * rng.randrange(40)), ("read", table),
-                       ("measure", table), asked, asked])
+    made = rng.choice([("generate", table, [7] * rng.randrange(40)), ("measure", table)])
+    return rng.choice([("lookup", table, rng.getrandbits(8)), ("read", table), made, made, made, asked, asked, asked])
 
 
 def some_word(rng):
@@ -225,15 +226,19 @@ def main():
         tally["lines"] += len(seen)
         tally["cycles"] += sum(line.startswith("13 0 ") for line in expected)
         tally["operands"] += sum(line.startswith(("14 0 ", "15 0 ", "16 0 ")) for line in expected)
+        tally["unreached, generated"] += sum(line.startswith("3 19 ") for line in expected)
+        tally["unreached, sized"] += sum(line.startswith("12 19 ") for line in expected)
         tally["stopped" if expected and expected[-1].startswith("stopped") else "ended"] += 1
         for mistake in set(MISTAKES) - noticed:
             if framed(data, mistake) != framed(data):
                 noticed.add(mistake)
     if len(noticed) < len(MISTAKES):
         sys.exit(f"no stream shows: {sorted(set(MISTAKES) - noticed)}")
-    probe.require_enough(tally, {"stopped": count // 4, "ended": count // 10, "lines": count, "cycles": count // 40, "operands": count // 40})
-    print(f"probe_fuzz good: {tally['streams']} streams, {tally['lines']} lines, {tally['cycles']} of cycles, {tally['operands']} of operands; "
-          f"stopped: {tally['stopped']}, whole: {tally['ended']}; faults 0; {len(noticed)} of {len(MISTAKES)} mistakes noticed")
+    probe.require_enough(tally, {"stopped": count // 4, "ended": count // 10, "lines": count, "cycles": count // 40, "operands": count // 40,
+                                 "unreached, generated": count // 80, "unreached, sized": count // 80})
+    print(f"probe_fuzz good: {tally['streams']} streams, {tally['lines']} lines, {tally['cycles']} of cycles, {tally['operands']} of operands, "
+          f"{tally['unreached, generated']} and {tally['unreached, sized']} of number 19; stopped: {tally['stopped']}, whole: {tally['ended']}; "
+          f"faults 0; {len(noticed)} of {len(MISTAKES)} mistakes noticed")
 
 
 if __name__ == "__main__":

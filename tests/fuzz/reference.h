@@ -24,7 +24,7 @@
     X(BIT_TWICE) X(ONE_SIDE_BEGINS) X(ALL_USED) X(NAMED_STEP) X(NOTHING_STEP) X(NO_ROOM) X(LAST_HALF)
 #define SIZE_CHECKS(X)                                                                                                       \
     X(TREE_LIMIT) X(FIT_FIRST) X(CONFLICT) X(FIRST_CONFLICT) X(DEEPEST) X(HIGHEST_ON_TIE) X(MOST_MASKS) X(HIGHEST_UNFIXED)      \
-    X(UNMATCHING_TOO) X(CYCLES_ASIDE)
+    X(UNMATCHING_TOO) X(CYCLES_ASIDE) X(UNREACHED) X(CONFLICT_FIRST) X(LOWEST_UNREACHED)
 #define CYCLES_CHECKS(X)                                                                                                     \
     X(CYCLES_HIGH) X(AFTER_VALUE) X(BEFORE_FIELDS) X(KIND_ONE_ZERO) X(NO_SUCH_ENTRY) X(FAULTS_FIRST)
 #define NUMBER_CHECKS(X)                                                                                                     \
@@ -42,13 +42,14 @@ enum check {
     NUMBER_CHECKS(NAME) NUMBER_END
 #undef NAME
 };
-_Static_assert(CYCLES_END < 64, "the checks have a bit each in a table's `came`");
+_Static_assert(CYCLES_END - WALK_END < 64, "the checks have a bit each in a table's `came`");
 
 #define MOST_STEPS 200000u /* only a wrong walk, which may go round in circles, comes to it */
 #define MOST_TABLE_WORDS 16384u
 #define MOST_TREE_WORDS 16384u
 #define MOST_CYCLES 65535u
 #define MOST_IMAGE_BYTES 2097152u
+#define MOST_ASKED_WIDTH 8u /* of a table whose words are all asked what they select */
 
 static uint32_t word_at(const uint8_t *bytes, size_t index) {
     const uint8_t *at = bytes + 4 * index;
@@ -135,7 +136,7 @@ struct table {
     uint32_t width, entries, has_cycles, number;
     size_t place, places[256];
     enum check stopped_by, without;
-    uint64_t came; /* a bit for each part of a rule that the input came by */
+    uint64_t came; /* a bit for each part of a rule that the input came by, from WALK_END on */
 };
 
 static struct table table_of(const uint32_t *words, size_t count, enum check without) {
@@ -145,7 +146,7 @@ static struct table table_of(const uint32_t *words, size_t count, enum check wit
 
 /* Whether this part of a rule is kept. */
 static int keeps(struct table *table, enum check part) {
-    table->came |= (uint64_t)1 << part;
+    table->came |= (uint64_t)1 << (part - WALK_END);
     return table->without != part;
 }
 
@@ -398,6 +399,7 @@ static uint64_t reference_check(const uint32_t *words, size_t count, const uint3
 struct sizing {
     struct table table;
     uint32_t nodes, tests, conflicts, word;
+    uint8_t selected[256]; /* 1 for each entry that some word selects */
     int full;
     uint64_t result;
 };
@@ -446,7 +448,9 @@ static void size_from(struct sizing *sizing, struct cell cell, uint32_t tests) {
     sizing->full |= sizing->nodes + 2 > most;
     if (sizing->full) return;
     sizing->nodes++;
-    int leaf = first_step(&sizing->table, cell) != NEITHER;
+    uint32_t step = first_step(&sizing->table, cell);
+    if (step < NO_ENTRY) sizing->selected[step] = 1; /* what a leaf names all words of its cell select */
+    int leaf = step != NEITHER;
     uint32_t bit = leaf ? 32 : tested_bit(sizing, cell);
     if (bit == 32) {
         if (tests > sizing->tests || (tests < sizing->tests && !keeps(&sizing->table, DEEPEST))) sizing->tests = tests;
@@ -461,7 +465,29 @@ static void size_from(struct sizing *sizing, struct cell cell, uint32_t tests) {
     size_from(sizing, one, tests + 1);
 }
 
-/* "A tree fits when nodes + 1 is .. at most 16,384; conflict leaves count. Fit is decided before ambiguity." */
+/* Document 02, No. 8: "some entry is selected by no word of the width". How many are: where the words are few, each of them is asked;
+ * else the leaves have told, which together have all words. */
+static uint32_t count_unreached(struct sizing *sizing) {
+    uint32_t width = sizing->table.width, count = 0;
+    if (width <= MOST_ASKED_WIDTH) memset(sizing->selected, 0, sizeof sizing->selected);
+    for (uint32_t word = 0; width <= MOST_ASKED_WIDTH && word >> width == 0; word++) {
+        struct cell cell = {span(0, width), word};
+        uint32_t entry = first_step(&sizing->table, cell);
+        if (entry < NO_ENTRY) sizing->selected[entry] = 1;
+    }
+    for (uint32_t entry = 0; entry < sizing->table.entries; entry++) count += !sizing->selected[entry];
+    return count;
+}
+
+/* "the lowest such entry". There is one. */
+static uint32_t unreached_entry(struct sizing *sizing) {
+    uint32_t entries = sizing->table.entries, found = entries;
+    for (uint32_t entry = 0; entry < entries; entry++)
+        if (!sizing->selected[entry] && (found == entries || !keeps(&sizing->table, LOWEST_UNREACHED))) found = entry;
+    return found;
+}
+
+/* "A tree fits when nodes + 1 is .. at most 16,384; conflict leaves count. Fit is decided before ambiguity." No. 8: "19, .. after 6". */
 static struct sizing reference_size(const uint32_t *words, size_t count, enum check without) {
     struct sizing sizing = {.table = table_of(words, count, without)};
     int good = read_table(&sizing.table);
@@ -469,8 +495,11 @@ static struct sizing reference_size(const uint32_t *words, size_t count, enum ch
     if (!good) return sizing;
     struct cell none = {0, 0};
     size_from(&sizing, none, 0);
+    uint32_t unreached = count_unreached(&sizing);
     if (sizing.full && (sizing.conflicts == 0 || keeps(&sizing.table, FIT_FIRST))) sizing.result = refused_list(5, 0);
-    else if (sizing.conflicts > 0 && keeps(&sizing.table, CONFLICT)) sizing.result = refused_list(6, sizing.word);
+    else if (sizing.conflicts > 0 && keeps(&sizing.table, CONFLICT) && (unreached == 0 || keeps(&sizing.table, CONFLICT_FIRST)))
+        sizing.result = refused_list(6, sizing.word);
+    else if (unreached > 0 && keeps(&sizing.table, UNREACHED)) sizing.result = refused_list(19, unreached_entry(&sizing));
     else sizing.result = (uint64_t)sizing.tests << 16 | sizing.nodes;
     return sizing;
 }

@@ -1,5 +1,5 @@
 """Tables and questions written by hand, with the lines of docs/probe.md that document 01 asks for (masks, sizes and cycles: document
-02's No. 1 to No. 3; operands with a sign or a point: its No. 7).
+02's No. 1 to No. 3; operands with a sign or a point: its No. 7; entries that no word selects: its No. 8).
 
 Nothing here is computed by the second implementation: every number, place and mask was written out by reading the documents.
 """
@@ -622,6 +622,9 @@ TREE_EXAMPLES = [
 # Width 3, 00- and 1-0: bit 2 is in both masks; below its zero side bit 1 is tested, below its one side bit 0.
 BITS_APART = table("10020003 20000310 00000006 00000000 30000001 20010310 00000005 00000004 30000101")
 
+# Width 3, 1--, but neither 110 nor 111: bit 2, then bit 1, and bit 0 for the two conditions; there both sides are nothing.
+NOTHING_DEEPEST = table("10010003 20000312 00000004 00000004 30000002 40000000 00000003 00000002 40000000 00000003 00000003")
+
 
 def size(words):
     return ("measure", words)
@@ -637,9 +640,9 @@ SIZE_EXAMPLES = [
     ("size, every kind once", size(EVERY_KIND), "12 0 0 00000000 5 2"),
     ("size, a short entry and a longer one", size(SHORT_AND_LONG), "12 0 0 00000000 5 2"),
     ("size, other bits on the two sides", size(BITS_APART), "12 0 0 00000000 7 2"),
-    # Bit 3, and below its one side bits 2 to 0 on every path. All leaves of the second name nothing.
+    # Bit 3, and below its one side bits 2 to 0 on every path.
     ("size, eight unmatching patterns", size(EIGHT_UNMATCHING), "12 0 0 00000000 17 4"),
-    ("size, eight conditions", size(EIGHT_CONDITIONS), "12 0 0 00000000 17 4"),
+    ("size, nothing is deepest", size(NOTHING_DEEPEST), "12 0 0 00000000 7 3"),
 
     # 6 with the word as in generating.
     ("size of 0-- and --0", size(ZERO_HIGH_ZERO_LOW), "12 6 0 00000000"),
@@ -924,6 +927,104 @@ CYCLES_EXAMPLES = [
     ("six halfwords with cycles, 5 words", listing(SHORT_OR_LONG_CYCLES, SHORT_OR_LONG_TREE, SIX_HALVES, 5),
      "9 0 0 00000000 5 | c0000000 c0100001 d0000003 c0000004 e0000005"),
     ("a step at 1, with cycles", step(SHORT_OR_LONG_CYCLES, SHORT_OR_LONG_TREE, SIX_HALVES, 1), "8 0 0 00000000 c0100001 3 c0000000"),
+]
+
+
+# ---------------------------------------------------------------------------- entries that no word selects
+
+def zeros(length):
+    return " ".join(["|"] + ["00000000"] * length)
+
+
+# Width 1, labels from 7 on. An entry that matches both words, -, is 20070110 00000000 00000000 30000001 without conditions.
+# - without word 0, and 1: all that the first claims is the second's.
+COVERED_BY_ONE = table("10020001 20070111 00000000 00000000 30000001 40000000 00000001 00000000 20080100 00000001 00000001")
+COVERED_BY_ONE_TREE = table("70010003 80000003 a0000000 90000001")
+# -, 0 and 1; then the same with - in the middle, and at the end.
+COVERED_BY_TWO = table("10030001 20070110 00000000 00000000 30000001 20080100 00000001 00000000 20090100 00000001 00000001")
+COVERED_BY_TWO_TREE = table("70010003 80000003 90000001 90000002")
+MIDDLE_COVERED = table("10030001 20070100 00000001 00000000 20080110 00000000 00000000 30000001 20090100 00000001 00000001")
+LAST_COVERED = table("10030001 20070100 00000001 00000000 20080100 00000001 00000001 20090110 00000000 00000000 30000001")
+# - without every word.
+OWN_CONDITION = table("10010001 20070111 00000000 00000000 30000001 40000000 00000000 00000000")
+OWN_CONDITION_TREE = table("70010001 a0000000")
+# 0 and -: the second keeps word 1.
+NOT_COVERED = table("10020001 20070100 00000001 00000000 20080110 00000000 00000000 30000001")
+# 0, - without every word, 1, -: the second and the fourth are never selected.
+TWO_UNREACHED = table("""10040001 20070100 00000001 00000000 20080111 00000000 00000000 30000001 40000000 00000000 00000000
+    20090100 00000001 00000001 200a0110 00000000 00000000 30000001""")
+# - without every word, and twice 1: ambiguous.
+TWINS_AND_EXCLUDED = table("""10030001 20070111 00000000 00000000 30000001 40000000 00000000 00000000
+    20080100 00000001 00000001 20090100 00000001 00000001""")
+COVERED_CYCLES = table("60030001 20070110 00000000 00000000 00000005 30000001 20080100 00000001 00000000 00000006 "
+                       "20090100 00000001 00000001 00000007")
+# 256 entries of width 8, the values 0 to 255; the last excludes its word.
+LAST_OF_256 = [0x11000008, *(word for value in range(255) for word in (0x20000800, 0xFF, value)),
+               0x20000801, 0xFF, 0xFF, 0x40000000, 0, 0]
+# SHORT_OR_LONG with a third entry, 11--.. of 32 bits, that excludes every word. Its condition holds in every cell: the tree is the same.
+IMAGE_EXCLUDED = [0x10030020, *SHORT_OR_LONG[1:], *table("20022011 c0000000 c0000000 3000001e 40000000 00000000 00000000")]
+
+REFUSED_0, REFUSED_1 = "19 0 00000000", "19 1 00000000"
+
+# (what it shows, the question, the line)
+REACH_EXAMPLES = [
+    # Generating: as many words as the tree has, more, and one fewer. "the tree buffer is all zero"
+    ("covered by one, 4 words", generate(COVERED_BY_ONE, 4), f"3 {REFUSED_0} {zeros(4)}"),
+    ("covered by one, 6 words", generate(COVERED_BY_ONE, 6), f"3 {REFUSED_0} {zeros(6)}"),
+    ("covered by one, 3 words", generate(COVERED_BY_ONE, 3), f"3 5 0 00000000 {zeros(3)}"),
+    ("covered by two, 4 words", generate(COVERED_BY_TWO, 4), f"3 {REFUSED_0} {zeros(4)}"),
+    ("covered by two, 3 words", generate(COVERED_BY_TWO, 3), f"3 5 0 00000000 {zeros(3)}"),
+    ("its own condition, 2 words", generate(OWN_CONDITION, 2), f"3 {REFUSED_0} {zeros(2)}"),
+    ("its own condition, 5 words", generate(OWN_CONDITION, 5), f"3 {REFUSED_0} {zeros(5)}"),
+    ("its own condition, 1 word", generate(OWN_CONDITION, 1), f"3 5 0 00000000 {zeros(1)}"),
+    ("its own condition, no word", generate(OWN_CONDITION, 0), "3 5 0 00000000 |"),
+    ("not covered, 4 words", generate(NOT_COVERED, 4), "3 0 0 00000000 4 | 70010003 80000003 90000000 90000001"),
+    ("the middle covered, 4 words", generate(MIDDLE_COVERED, 4), f"3 {REFUSED_1} {zeros(4)}"),
+    ("the last covered, 4 words", generate(LAST_COVERED, 4), f"3 19 2 00000000 {zeros(4)}"),
+    ("the lower of two, 4 words", generate(TWO_UNREACHED, 4), f"3 {REFUSED_1} {zeros(4)}"),
+    ("6 before 19, 4 words", generate(TWINS_AND_EXCLUDED, 4), f"3 6 0 00000001 {zeros(4)}"),
+    ("6 before 19, 3 words", generate(TWINS_AND_EXCLUDED, 3), f"3 5 0 00000000 {zeros(3)}"),
+    ("eight conditions, 18 words", generate(EIGHT_CONDITIONS, 18), f"3 {REFUSED_0} {zeros(18)}"),
+    ("eight conditions, 17 words", generate(EIGHT_CONDITIONS, 17), f"3 5 0 00000000 {zeros(17)}"),
+    ("covered, with cycles", generate(COVERED_CYCLES, 4), f"3 {REFUSED_0} {zeros(4)}"),
+    ("covered, cut by a word", generate(COVERED_BY_TWO[:-1], 2), "3 2 10 00000000 | 11111111 22222222"),
+
+    # Sizing.
+    ("size, covered by one", size(COVERED_BY_ONE), f"12 {REFUSED_0}"),
+    ("size, covered by two", size(COVERED_BY_TWO), f"12 {REFUSED_0}"),
+    ("size, its own condition", size(OWN_CONDITION), f"12 {REFUSED_0}"),
+    ("size, not covered", size(NOT_COVERED), "12 0 0 00000000 3 1"),
+    ("size, the middle covered", size(MIDDLE_COVERED), f"12 {REFUSED_1}"),
+    ("size, the last covered", size(LAST_COVERED), "12 19 2 00000000"),
+    ("size, the lower of two", size(TWO_UNREACHED), f"12 {REFUSED_1}"),
+    ("size, 6 before 19", size(TWINS_AND_EXCLUDED), "12 6 0 00000001"),
+    ("size, eight conditions", size(EIGHT_CONDITIONS), f"12 {REFUSED_0}"),
+    ("size, covered, with cycles", size(COVERED_CYCLES), f"12 {REFUSED_0}"),
+    ("size, the last of 256", size(LAST_OF_256), "12 19 255 00000000"),
+    ("size, covered, cut by a word", size(COVERED_BY_TWO[:-1]), "12 2 10 00000000"),
+    ("size, an image's table", size(IMAGE_EXCLUDED), "12 19 2 00000000"),
+
+    # "lookup, decoding and encoding still take the table"; so do the other calls.
+    ("covered, read", ("read", COVERED_BY_TWO), "1 0 0 00000000 1 3"),
+    *((f"covered by one, word {word}", lookup(COVERED_BY_ONE, word), f"2 0 0 00000000 {named}") for word, named in ((0, "nothing"), (1, "1"))),
+    *((f"covered by two, word {word}", lookup(COVERED_BY_TWO, word), f"2 0 0 00000000 {word + 1}") for word in (0, 1)),
+    *((f"its own condition, word {word}", lookup(OWN_CONDITION, word), "2 0 0 00000000 nothing") for word in (0, 1)),
+    ("covered, word 2", lookup(COVERED_BY_TWO, 2), "2 7 0 00000000"),
+    ("covered, decoded", decode(COVERED_BY_TWO, 1, EIGHTS), "5 0 0 00000000 2 " + KEPT),
+    ("its own condition, decoded", decode(OWN_CONDITION, 1, EIGHTS), "5 0 0 00000000 nothing " + KEPT),
+    ("covered, encoded", encode(COVERED_BY_TWO, 0, [1]), "6 13 0 00000001"),
+    ("covered, another encoded", encode(COVERED_BY_TWO, 2, []), "6 0 0 00000000 00000001"),
+    ("its own condition, encoded", encode(OWN_CONDITION, 0, [1]), "6 13 0 00000001"),
+    ("covered, a value that does not fit", encode(COVERED_BY_TWO, 0, [2]), "6 12 0 00000000"),
+    ("covered, cycles", cycles(COVERED_CYCLES, 0), "13 0 0 00000000 5"),
+    ("covered by one, its tree", check(COVERED_BY_ONE, COVERED_BY_ONE_TREE), ACCEPTED),
+    ("covered by two, its tree", check(COVERED_BY_TWO, COVERED_BY_TWO_TREE), ACCEPTED),
+    ("its own condition, its tree", check(OWN_CONDITION, OWN_CONDITION_TREE), ACCEPTED),
+    ("covered by two, the first named", check(COVERED_BY_TWO, "70010001 90000000"), SAYS_NO),
+    ("its own condition, named", check(OWN_CONDITION, "70010001 90000000"), SAYS_NO),
+    ("an entry excluded, six halfwords, 5 words", listing(IMAGE_EXCLUDED, SHORT_OR_LONG_TREE, SIX_HALVES, 5),
+     "9 0 0 00000000 5 | c0000000 c0100001 d0000003 c0000004 e0000005"),
+    ("an entry excluded, a step at 1", step(IMAGE_EXCLUDED, SHORT_OR_LONG_TREE, SIX_HALVES, 1), "8 0 0 00000000 c0100001 3 c0000000"),
 ]
 
 

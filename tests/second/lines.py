@@ -1,10 +1,10 @@
 """The line of docs/probe.md that the second implementation gives for a question."""
 
-from second import cost, measure, numbers, selection, walk
+from second import cost, measure, numbers, selection, tree, walk
 from second.checker import check
 from second.image import END, list_items, step
 from second.reader import Refusal, read
-from second.tree import MOST_TREE_WORDS, generate
+from second.tree import MOST_TREE_WORDS
 
 
 def refusal_text(outcome):
@@ -37,7 +37,7 @@ def buffer_text(after):
 
 
 def generate_line(words, buffer):
-    outcome, after = generate(words, buffer)
+    outcome, after = tree.generate(words, buffer)
     return "3 " + refusal_text(outcome) + result_text(outcome, str(outcome)) + " " + buffer_text(after)
 
 
@@ -150,7 +150,7 @@ def mktree_text(data):
     else:
         # "words low byte first"; "Its tree buffer is 16,384 words."
         words = [int.from_bytes(data[start:start + 4], "little") for start in range(0, len(data), 4)]
-        outcome, after = generate(words, [0] * MOST_TREE_WORDS)
+        outcome, after = tree.generate(words, [0] * MOST_TREE_WORDS)
     # "A refusal prints one line: `refused`, number and place in decimal, and the word in eight such digits".
     if isinstance(outcome, Refusal):
         return f"refused {refusal_text(outcome)}\n"

@@ -3,9 +3,10 @@
 Tests are not counted along paths: the cell of a leaf says how many there are before it.
 """
 
+from second import tree
 from second.reader import Refusal
 from second.selection import read_once
-from second.tree import MOST_TREE_WORDS, Test, conflict_word, nodes_once
+from second.tree import MOST_TREE_WORDS, Test, nodes_once
 
 
 def leaves_of(nodes):
@@ -19,17 +20,14 @@ def tests_before(leaf):
 
 
 def measure(words):
-    """The number of nodes and the greatest number of tests, or a Refusal. Order: 1 to 4, then 5, 6."""
+    """The number of nodes and the greatest number of tests, or a Refusal. Order: 1 to 4, then 5, 6, 19."""
     table = read_once(tuple(words))
     if isinstance(table, Refusal):
         return table
     nodes = nodes_once(tuple(words))
-    # "The tree limit applies: over it the answer is 5". Document 01: nodes + 1 is "at most 16,384; conflict leaves count."
-    if nodes is None or len(nodes) + 1 > MOST_TREE_WORDS:
-        return Refusal(5)
-    # "then 6 as in generating"
-    word = conflict_word(nodes)
-    if word is not None:
-        return Refusal(6, word=word)
+    # "The tree limit applies: over it the answer is 5, then 6 as in generating." No. 8: "Generating and sizing now refuse such a table."
+    refusal = tree.refusal_of(table, nodes, MOST_TREE_WORDS)
+    if refusal is not None:
+        return refusal
     # "the number of nodes that generating writes and the greatest number of tests on a path to any leaf"
     return len(nodes), max(tests_before(leaf) for leaf in leaves_of(nodes))

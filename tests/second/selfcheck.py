@@ -16,10 +16,13 @@ sys.path[:] = [str(HERE.parent), *(place for place in sys.path if Path(place).re
 
 from fractions import Fraction
 
-from second import checker, checktrees, cost, examples, image, images, measure, numbers, reader, selection, tables, tree, trees, twins, \
-    walk, wrong_cycles, wrong_masks, wrong_numbers, wrong_sizes
+from second import checker, checktrees, cost, examples, image, images, measure, numbers, reach, reader, selection, tables, tree, trees, \
+    twins, walk, wrong_cycles, wrong_masks, wrong_numbers, wrong_reach, wrong_sizes
 from second.lines import line_of, mktree_text
 from second.reader import Refusal, Table, read
+
+
+REACH_SEED = 801        # tables for entries that no word selects; the other draws don't depend on them
 
 
 def fail(text):
@@ -47,7 +50,7 @@ MOST_MASKS_LINE = "3 0 0 00000000 6 | 70030005 80000005 81000004 90000001 900000
 # The hand-written examples: (name, question, line)
 ASKED = [(name, ("read", words), line) for name, words, line in examples.READ_EXAMPLES] + examples.SELECTION_EXAMPLES \
     + examples.TREE_EXAMPLES + examples.CHECK_EXAMPLES + examples.IMAGE_EXAMPLES + examples.STEP_MASK_EXAMPLES \
-    + examples.SIZE_EXAMPLES + examples.CYCLES_EXAMPLES + examples.NUMBERS_EXAMPLES \
+    + examples.SIZE_EXAMPLES + examples.CYCLES_EXAMPLES + examples.REACH_EXAMPLES + examples.NUMBERS_EXAMPLES \
     + [("the bit of the most masks", ("generate", MOST_MASKS, [0] * 6), MOST_MASKS_LINE)]
 
 
@@ -250,7 +253,7 @@ def cycles_of_no_word(reading):
 
 HOMES = {reader: ("read_cycles", "form_at_fault", "spare_bit_set", "read_field"),
          selection: ("satisfied", "more_specific", "select", "field_value", "encode"),
-         tree: ("entry_status", "condition_status", "chosen_bit", "conflict_word"),
+         tree: ("entry_status", "condition_status", "chosen_bit", "conflict_word", "refusal_of", "generate"),
          walk: ("damaged", "header_good", "packed", "walk", "mask_bytes"),
          checker: ("widths_equal", "none_damaged", "one_sides_begin_right", "all_used", "no_bit_twice", "named_right",
                    "nothing_right", "first_step"),
@@ -309,10 +312,41 @@ MISTAKES = [("satisfied", one_missed_is_enough, "0x00 A"),
             ("measure", wrong_sizes.zero_sides_alone, "size, every kind once"),
             ("measure", wrong_sizes.one_sides_alone, "size of the worked table"),
             ("measure", wrong_sizes.leaf_counted, "size of the printed table"),
-            ("measure", wrong_sizes.nothing_left_out, "size, eight conditions"),
+            ("measure", wrong_sizes.nothing_left_out, "size, nothing is deepest"),
             ("measure", wrong_sizes.bits_of_all_paths, "size, other bits on the two sides"),
             ("measure", wrong_sizes.words_for_nodes, "size of the printed table"),
             ("measure", wrong_sizes.word_left_out, "size of twins 1-"),
+            # each in generating and in sizing, where compare_measure.py has 19 before the limit
+            ("refusal_of", wrong_reach.let_through, "its own condition, 2 words"),
+            ("refusal_of", wrong_reach.let_through, "size, its own condition"),
+            ("refusal_of", wrong_reach.claiming_is_enough, "covered by one, 4 words"),
+            ("refusal_of", wrong_reach.claiming_is_enough, "size, covered by one"),
+            ("refusal_of", wrong_reach.claiming_alone_judged, "its own condition, 2 words"),
+            ("refusal_of", wrong_reach.claiming_alone_judged, "size, its own condition"),
+            ("refusal_of", wrong_reach.one_cover_alone, "covered by two, 4 words"),
+            ("refusal_of", wrong_reach.one_cover_alone, "size, covered by two"),
+            ("refusal_of", wrong_reach.highest_for_lowest, "the lower of two, 4 words"),
+            ("refusal_of", wrong_reach.highest_for_lowest, "size, the lower of two"),
+            ("refusal_of", wrong_reach.first_not_judged, "covered by two, 4 words"),
+            ("refusal_of", wrong_reach.first_not_judged, "size, covered by one"),
+            ("refusal_of", wrong_reach.last_not_judged, "the last covered, 4 words"),
+            ("refusal_of", wrong_reach.last_not_judged, "size, the last of 256"),
+            ("refusal_of", wrong_reach.count_for_place, "the middle covered, 4 words"),
+            ("refusal_of", wrong_reach.count_for_place, "size, the last of 256"),
+            ("refusal_of", wrong_reach.label_for_place, "covered by one, 4 words"),
+            ("refusal_of", wrong_reach.label_for_place, "size, the middle covered"),
+            ("refusal_of", wrong_reach.entry_for_word, "the middle covered, 4 words"),
+            ("refusal_of", wrong_reach.entry_for_word, "size, the last covered"),
+            ("refusal_of", wrong_reach.taken_for_ambiguous, "covered by two, 4 words"),
+            ("refusal_of", wrong_reach.taken_for_ambiguous, "size, covered by two"),
+            ("refusal_of", wrong_reach.before_ambiguous, "6 before 19, 4 words"),
+            ("refusal_of", wrong_reach.before_ambiguous, "size, 6 before 19"),
+            ("refusal_of", wrong_reach.before_fit, "covered by one, 3 words"),
+            ("refusal_of", wrong_reach.before_fit, "its own condition, no word"),
+            ("refusal_of", wrong_reach.no_entries_refused, "no entries, kind 6"),
+            ("refusal_of", wrong_reach.no_entries_refused, "size of no entries, width 1"),
+            ("generate", wrong_reach.buffer_kept, "covered by one, 4 words"),
+            ("generate", wrong_reach.tree_left, "covered by one, 6 words"),
             ("read_cycles", any_cycles, "65,536 cycles"),
             ("read_cycles", any_cycles, "65,536 cycles, no field"),
             ("read_cycles", cycles_of_no_word, "0 cycles, no field"),
@@ -654,25 +688,25 @@ def check_step(table, node, words):
         fail(f"bit {node.bit} is tested twice: {hexadecimal(words)}")
 
 
-def check_buffers(words, nodes, conflict, tally):
-    """nodes + 1 words take the tree, one fewer don't; 5 comes before 6; what is left is unchanged, or all is zero."""
+def check_buffers(words, nodes, refusal, tally):
+    """nodes + 1 words take the tree, one fewer don't; 5 comes before 6 and 19; what is left is unchanged, or all is zero."""
     for length in {0, 1, nodes, nodes + 1, nodes + 4}:
         lent = [0xDDDDDDDD] * length
         outcome, after = tree.generate(words, lent)
-        wanted = Refusal(5) if length < nodes + 1 else conflict if conflict is not None else nodes + 1
+        wanted = Refusal(5) if length < nodes + 1 else refusal if refusal is not None else nodes + 1
         rest = [0] * length if isinstance(wanted, Refusal) else after[:nodes + 1] + lent[nodes + 1:]
         if outcome != wanted or after != rest:
             fail(f"{length} words lent for {nodes} nodes give {outcome}: {hexadecimal(words)}")
         tally[f"outcome {outcome.number}" if isinstance(outcome, Refusal) else "outcome tree"] += 1
 
 
-def check_size(words, nodes, conflict, most, every):
+def check_size(words, nodes, refusal, most, every):
     """Sizing against the nodes, and against the most tests of a word that was asked; with every word that is the greatest number."""
     size = measure.measure(words)
     if not every and not isinstance(size, Refusal):
         most = max(most, size[1])
-    if size != (Refusal(6, word=conflict) if conflict is not None else (nodes, most)):
-        fail(f"the size is {size}: {nodes} nodes, a word has {most} tests, conflict word {conflict}: {hexadecimal(words)}")
+    if size != (refusal if refusal is not None else (nodes, most)):
+        fail(f"the size is {size}: {nodes} nodes, a word has {most} tests, {refusal}: {hexadecimal(words)}")
 
 
 def check_tree_of(words, tally, asked):
@@ -683,8 +717,8 @@ def check_tree_of(words, tally, asked):
         return
     for node in nodes:
         check_step(table, node, words)
-    conflict = tree.conflict_word(nodes)
-    check_buffers(words, len(nodes), None if conflict is None else Refusal(6, word=conflict), tally)
+    conflict, refusal = tree.conflict_word(nodes), tree.refusal_by_leaves(table, nodes)
+    check_buffers(words, len(nodes), refusal, tally)
     written = tree.written(table.width, nodes)
     ambiguous, most = False, 0
     for word in range(1 << table.width) if asked is None else asked:
@@ -702,7 +736,7 @@ def check_tree_of(words, tally, asked):
             fail(f"word {word:x} is {wanted}, walked: {walk.walk(written, word)}: {hexadecimal(words)}")
         most = max(most, len(tests))
         tally["walked words"] += 1
-    check_size(words, len(nodes), conflict, most, asked is None)
+    check_size(words, len(nodes), refusal, most, asked is None)
     if conflict is not None and selection.select(table, conflict) != selection.AMBIGUOUS:
         fail(f"word {conflict:x} isn't ambiguous: {hexadecimal(words)}")
     if asked is None and ambiguous != (conflict is not None):
@@ -756,8 +790,90 @@ def check_trees(rng, tally):
             fail(f"a tree at the limit gives {outcome} and not {length}")
         if measure.measure(words) != (length if isinstance(length, Refusal) else (length - 1, 13)):
             fail(f"a tree at the limit has the size {measure.measure(words)}, generating gives {length}")
-    for what, least in (("trees", 350), ("ambiguous trees", 60), ("outcome 5", 700), ("outcome 6", 100), ("outcome tree", 400),
-                        ("same of twins", 700)):
+    for what, least in (("trees", 350), ("ambiguous trees", 60), ("outcome 5", 700), ("outcome 6", 100), ("outcome 19", 200),
+                        ("outcome tree", 200), ("same of twins", 700)):
+        if tally[what] < least:
+            fail(f"only {tally[what]} of {what}")
+
+
+# ---------------------------------------------------------------------------- entries that no word selects
+
+def where(number, count):
+    """Which of so many entries: the only one, the first, the last, or one in the middle."""
+    return "only" if count == 1 else "first" if number == 0 else "last" if number == count - 1 else "middle"
+
+
+def count_unreached(table, selected, tally):
+    """How an entry came to be selected by no word, and what is in the table."""
+    unreached = reach.unreached_in(len(table.entries), selected)
+    claiming = {number for word in range(2 ** table.width) for word_bits in [selection.ones(word)] for number in unreached
+                if selection.claims(word_bits, table.entries[number])}
+    tally["19, several entries"] += len(unreached) > 1
+    tally["19, an entry claims words"] += len(claiming) > 0
+    tally["19, an entry claims none"] += len(claiming) < len(unreached)
+    tally["19, short entries"] += any(entry.length < table.width for entry in table.entries)
+    tally["19, unmatching patterns"] += any(condition.unmatching for entry in table.entries for condition in entry.conditions)
+
+
+def check_reach_of(plan, tally):
+    """What generating and sizing say by the leaves, against all words. 6 is given with a word, which check_tree_of looks at."""
+    words = tables.lay_out(plan).words
+    table = read(words)
+    selected = reach.selected_by(table)
+    wanted = reach.judged(len(table.entries), selected)
+    outcomes = tree.generate(words, [1] * tree.MOST_TREE_WORDS)[0], measure.measure(words)
+    for outcome in outcomes:
+        seen = replace(outcome, word=0) if isinstance(outcome, Refusal) else None
+        if seen != wanted:
+            fail(f"by words {wanted}, by leaves {outcome}: {hexadecimal(words)}")
+    tally[f"by words {wanted.number if wanted else 'tree'}"] += 1
+    if wanted is not None and wanted.number == 19:
+        tally[f"19, the {where(wanted.place, len(table.entries))}"] += 1
+        count_unreached(table, selected, tally)
+    return wanted
+
+
+def picked(plan, answer):
+    """The entry that a word selects; None for nothing."""
+    return None if answer == selection.NOTHING else plan.entries[answer]
+
+
+def check_reachable(plan, tally):
+    """Without the entries that no word selects the plan has a tree, and each word selects the same entry."""
+    table = read(tables.lay_out(plan).words)
+    other = reach.reachable(plan, tree.nodes_of(table))
+    fewer = read(tables.lay_out(other).words)
+    for word in range(2 ** table.width):
+        before, after = selection.select(table, word), selection.select(fewer, word)
+        if picked(plan, before) is not picked(other, after):
+            fail(f"word {word:x} selects {before}, and then {after}: {plan}")
+    if check_reach_of(other, tally) is not None:
+        fail(f"an entry is left that no word selects: {other}")
+    tally["reachable"] += 1
+
+
+def check_covered(rng, width, tally):
+    """Plans that are made to have such an entry, or to have none by a single word."""
+    for how in tables.COVERS:
+        for spared in (False, True):
+            plan, number = tables.covered_plan(rng, width, how, spared)
+            if check_reach_of(plan, tally) != (None if spared else Refusal(19, place=number)):
+                fail(f"{how}, spared: {spared}, entry {number}: {plan}")
+            tally[f"{how}, a word spared" if spared else how] += 1
+
+
+def check_reach(rng, tally):
+    for width in range(1, reach.MOST_WIDTH + 1):
+        for _ in range(12):
+            for plan in tree_plans(rng, width):
+                wanted = check_reach_of(plan, tally)
+                if wanted is not None and wanted.number == 19 and rng.random() < 0.3:
+                    check_reachable(plan, tally)
+        for _ in range(4):
+            check_covered(rng, width, tally)
+    for what, least in (("by words tree", 300), ("by words 6", 80), ("by words 19", 250), ("19, the first", 90), ("19, the middle", 80),
+                        ("19, the last", 40), ("19, the only", 30), ("19, several entries", 70), ("19, an entry claims words", 100),
+                        ("19, an entry claims none", 150), ("19, short entries", 100), ("19, unmatching patterns", 150), ("reachable", 50)):
         if tally[what] < least:
             fail(f"only {tally[what]} of {what}")
 
@@ -941,14 +1057,17 @@ def main():
     check_round_trips(rng, tally)
     check_numbers(rng, tally)
     check_trees(rng, tally)
+    check_reach(random.Random(REACH_SEED), tally)
     check_checker(rng, tally)
     check_lister(rng, tally)
     judged = sum(tally[f"missing {part}"] for part in (None, *range(1, 9)))
+    unreached = ", ".join(f"the {which} entry: {tally[f'19, the {which}']}" for which in ("first", "middle", "last", "only"))
     print(f"selfcheck good: {example_count} examples, {mistakes} mistakes noticed, {tally['good, kind 1']} good tables of kind 1, "
           f"{tally['good, kind 6']} of kind 6, {tally['same of twins']} questions to twins, "
           f"damages by number 1: {tally[1]}, 2: {tally[2]}, 3: {tally[3]}, 4: {tally[4]}, "
           f"{tally['double']} double damages, {tally['round trips']} round trips, {tally['texts']} texts, {tally['trees']} trees "
-          f"({tally['ambiguous trees']} ambiguous), {tally['walked words']} walked words, {judged} trees judged twice "
+          f"({tally['ambiguous trees']} ambiguous), {tally['walked words']} walked words, tables judged by all their words: "
+          f"tree {tally['by words tree']}, 6: {tally['by words 6']}, 19: {tally['by words 19']} ({unreached}), {judged} trees judged twice "
           f"({tally['missing None']} accepted), {tally['items 12'] + tally['items 13'] + tally['items 14']} items walked")
 
 

@@ -352,6 +352,72 @@ def divided_plan(rng, width):
     return plan
 
 
+# ---------------------------------------------------------------------------- entries that no word selects, on purpose
+
+def run_entry(rng, width, length, mask, value):
+    """An entry whose fields are the runs that its mask leaves free. Up to seven mask bits leave at most eight."""
+    return EntryPlan(rng.randrange(4096), length, mask, value, free_runs(width, length, mask))
+
+
+def values_on(mask):
+    """Every value that a mask may have."""
+    lowest = mask & -mask
+    return [value | bit for value in values_on(mask ^ lowest) for bit in (0, lowest)] if mask else [0]
+
+
+def shared_words(rng, width, length):
+    """An entry, and more specific ones that share its words: one for each value of some of its free bits."""
+    own = own_bits(width, length)
+    mask = some_bits(rng, own, min(3, length - 1))
+    base = run_entry(rng, width, length, mask, rng.getrandbits(32) & mask)
+    split = some_bits(rng, own & ~mask, 3) or random_bit(rng, own & ~mask)
+    return base, [run_entry(rng, width, rng.randint(length, width), mask | split, base.value | value) for value in values_on(split)]
+
+
+# Each leaves the entry no word, or only the one of the pattern in `but_for`, and gives the other entries of the table.
+
+def by_itself(rng, base, shares, but_for):
+    """A condition takes the words."""
+    base.conditions.append((rng.choice([(0, 0), (base.mask, base.value)]), but_for))
+    return []
+
+
+def by_one(rng, base, shares, but_for):
+    """The entry keeps the words of one share, and a word outside of it."""
+    one = rng.choice([share for share in shares if not any(value & share.mask == share.value for _, value in but_for)])
+    base.conditions.append(((0, 0), [(one.mask, one.value), *but_for]))
+    return [one]
+
+
+def by_several(rng, base, shares, but_for):
+    """A share leaves the word to the entry; one that has no other word is left out."""
+    for mask, value in but_for:
+        share = next(share for share in shares if value & share.mask == share.value)
+        share.conditions.append(((mask, value), []))
+        shares = [other for other in shares if other is not share or share.mask != mask]
+    return shares
+
+
+COVERS = {"by its own conditions": by_itself, "by one more specific": by_one, "by several together": by_several}
+
+
+def covered_plan(rng, width, how, spared=False):
+    """A table of which one entry is selected by no word, and its number. With `spared` a single word selects it, and there is no number."""
+    base, shares = shared_words(rng, width, width if spared else random_length(rng, width))
+    word = word_on(rng, width, [(base.mask, base.value)])
+    entries = [base, *COVERS[how](rng, base, shares, [(own_bits(width, width), word)] if spared else [])]
+    rng.shuffle(entries)
+    number = next(number for number, entry in enumerate(entries) if entry is base)
+    return with_forms(rng, TablePlan(width, entries)), None if spared else number
+
+
+def with_excluded(rng, plan):
+    """The plan with one entry more, which excludes every word, and its number. It is dead in every cell: the tree has the same tests."""
+    at = rng.randint(0, len(plan.entries))
+    entry = everywhere_entry(rng, plan.width, [((0, 0), [])])
+    return TablePlan(plan.width, [*plan.entries[:at], entry, *plan.entries[at:]]), at
+
+
 # ---------------------------------------------------------------------------- tables with a tree of known size
 
 def undecided_condition(rng, width, depth):

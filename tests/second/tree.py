@@ -1,4 +1,5 @@
-"""Generating, written from document 01 alone (its "The tree of a table"). Quotations are sentences of document 01.
+"""Generating, written from document 01 alone (its "The tree of a table"), and entries that no word selects from document 02's No. 8.
+Quotations are sentences of document 01 where nothing else is said.
 
 A cell is kept as two sets of positions: the fixed bits, and those of them that are fixed to 1. A tree is a list of nodes
 in node order, each with the cell it was made in; only the last step turns it into words.
@@ -210,20 +211,47 @@ def conflict_word(nodes):
     return None
 
 
+def named_entries(nodes):
+    return {node.entry for node in nodes if isinstance(node, Names)}
+
+
+def unnamed_entries(table, nodes):
+    """The entries that no leaf names. Every word is in the cell of one leaf, and selects what that leaf names: so without a conflict
+    these are the entries "selected by no word of the width" (No. 8). reach.py tries the words themselves."""
+    named = named_entries(nodes)
+    return [number for number in range(len(table.entries)) if number not in named]
+
+
+def refusal_by_leaves(table, nodes):
+    """6, then 19, by the leaves of a tree; None for neither."""
+    word = conflict_word(nodes)
+    if word is not None:
+        return Refusal(6, word=word)
+    # No. 8: "19, with the lowest such entry as place, after 6".
+    unnamed = unnamed_entries(table, nodes)
+    return Refusal(19, place=unnamed[0]) if unnamed else None
+
+
+def refusal_of(table, nodes, room):
+    """5, 6 or 19 of a table without fault, in this order; None if a tree of these nodes is written into so many words."""
+    # "A tree fits when nodes + 1 is at most the buffer's length and at most 16,384; conflict leaves count.
+    # Fit is decided before ambiguity."
+    if nodes is None or len(nodes) + 1 > room or len(nodes) + 1 > MOST_TREE_WORDS:
+        return Refusal(5)
+    return refusal_by_leaves(table, nodes)
+
+
 def generate(words, buffer):
-    """What generating returns (nodes + 1, or a Refusal) and the buffer after it. Order: 1 to 4, then "generating 5, 6"."""
+    """What generating returns (nodes + 1, or a Refusal) and the buffer after it. Order: 1 to 4, then 5, 6, 19."""
     table = read_once(tuple(words))
     # 1 to 4 leave "all" unchanged.
     if isinstance(table, Refusal):
         return table, list(buffer)
     nodes = nodes_once(tuple(words))
-    # "A tree fits when nodes + 1 is at most the buffer's length and at most 16,384; conflict leaves count.
-    # Fit is decided before ambiguity." 5 and 6: "tree buffer all zero".
-    if nodes is None or len(nodes) + 1 > len(buffer) or len(nodes) + 1 > MOST_TREE_WORDS:
-        return Refusal(5), [0] * len(buffer)
-    word = conflict_word(nodes)
-    if word is not None:
-        return Refusal(6, word=word), [0] * len(buffer)
+    refusal = refusal_of(table, nodes, len(buffer))
+    # 5 and 6: "tree buffer all zero"; No. 8 of 19: "the tree buffer is all zero".
+    if refusal is not None:
+        return refusal, [0] * len(buffer)
     # "On success generating returns nodes + 1, and words after the tree are unchanged."
     tree = written(table.width, nodes)
     return len(tree), tree + list(buffer[len(tree):])

@@ -5,10 +5,10 @@ Each stands on the right sizing, which is kept here.
 
 from functools import lru_cache
 
-from second import measure
+from second import measure, wrong_reach
 from second.reader import Refusal
 from second.selection import read_once
-from second.tree import MOST_TREE_WORDS, Conflict, Names, conflict_word, nodes_of, nodes_once
+from second.tree import MOST_TREE_WORDS, Conflict, Names, conflict_word, nodes_of, nodes_once, refusal_by_leaves
 
 RIGHT_MEASURE = measure.measure
 
@@ -67,16 +67,18 @@ def more_nodes(words):
     return nodes_once(words) or nodes_of(read_once(words), MOST_TREE_WORDS + 1)
 
 
-def fitting_if(words, fits):
-    """Sizing with another rule for the nodes of a tree that fits."""
+def refused_by(words, refusal_of):
+    """Sizing with another function in the place of tree.refusal_of."""
     table = read_once(tuple(words))
     if isinstance(table, Refusal):
         return table
     nodes = more_nodes(tuple(words))
-    if nodes is None or not fits(nodes):
-        return Refusal(5)
-    word = conflict_word(nodes)
-    return (len(nodes), greatest(measure.leaves_of(nodes))) if word is None else Refusal(6, word=word)
+    return refusal_of(table, nodes, MOST_TREE_WORDS) or (len(nodes), greatest(measure.leaves_of(nodes)))
+
+
+def fitting_if(words, fits):
+    """Sizing with another rule for the nodes of a tree that fits."""
+    return refused_by(words, lambda table, nodes, room: refusal_by_leaves(table, nodes) if nodes and fits(nodes) else Refusal(5))
 
 
 def one_word_fewer(words):
@@ -105,5 +107,14 @@ def word_left_out(words):
     return Refusal(6) if isinstance(outcome, Refusal) and outcome.number == 6 else outcome
 
 
+def with_refusal(wrong):
+    """Sizing with a mistake of wrong_reach.py."""
+    def sizing(words):
+        return refused_by(words, wrong)
+    sizing.__doc__ = wrong.__doc__
+    return sizing
+
+
 WRONG = (zero_sides_alone, one_sides_alone, leaf_counted, nothing_left_out, bits_of_all_paths, words_for_nodes,
-         one_word_fewer, two_words_more, conflicts_not_counted, ambiguous_first, word_left_out)
+         one_word_fewer, two_words_more, conflicts_not_counted, ambiguous_first, word_left_out,
+         *(with_refusal(wrong) for wrong in wrong_reach.WRONG))
