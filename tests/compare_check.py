@@ -12,6 +12,7 @@ from itertools import islice
 
 import masks
 import probe
+import sizing
 import twinned
 from second import checktrees, examples, tables, trees
 from second.checker import PARTS, first_missing_once
@@ -232,17 +233,6 @@ def compare_by_hand(path):
         probe.stop_at_difference(name, question, expected, seen)
 
 
-def size_tables(path, group, refused, tally):
-    """Sizes the tables when they come by for the first time; those that are refused with 19 are added to `refused`."""
-    questions = [("measure", words) for name, words, _ in group if name in ("generated", "ambiguous")]
-    for question, seen in zip(questions, probe.ask(path, questions), strict=True):
-        probe.stop_at_difference("size", question, line_of(question), seen)
-        number = seen.split(" ")[1]
-        tally[f"sized {number}"] += 1
-        if number == "19":
-            refused.add(tuple(question[1]))
-
-
 def count(tally, name, words, tree, seen, refused):
     number = seen.split(" ")[1]
     outcome = "yes" if number == "0" else number
@@ -263,7 +253,7 @@ def count(tally, name, words, tree, seen, refused):
 def compare(path, rng, tally):
     cases, walk_rng, twins, refused = all_cases(rng), random.Random(WALK_SEED), Twins(SEED), set()
     while group := list(islice(cases, AT_ONCE)):
-        size_tables(path, group, refused, tally)
+        refused |= sizing.refused_with_19(path, [words for name, words, _ in group if name in ("generated", "ambiguous")], tally)
         questions = [("check", words, tree) for _, words, tree in group]
         lines, to_walk = probe.ask(path, questions), []
         for (name, words, tree), question, seen in zip(group, questions, lines, strict=True):

@@ -12,6 +12,7 @@ from dataclasses import dataclass
 
 import masks
 import probe
+import sizing
 import twinned
 from second import checktrees, examples, images, tables, trees
 from second.lines import line_of
@@ -208,20 +209,6 @@ def count_list(tally, question, seen):
     tally["list, buffer full" if items == len(buffer) else "list, buffer longer"] += 1
 
 
-def refused_with_19(path, cases, tally):
-    """The tables of usual images that sizing refuses so."""
-    words = {tuple(question[1]): None for name, _, question in cases if name == "usual"}
-    questions = [("measure", list(one)) for one in words]
-    refused = set()
-    for question, seen in zip(questions, probe.ask(path, questions), strict=True):
-        probe.stop_at_difference("size", question, line_of(question), seen)
-        number = seen.split(" ")[1]
-        tally[f"sized {number}"] += 1
-        if number == "19":
-            refused.add(tuple(question[1]))
-    return refused
-
-
 def count(tally, name, what, question, seen, refused):
     parts = seen.split(" |")[0].split(" ")
     number = parts[1]
@@ -255,7 +242,8 @@ def compare(path, rng, tally):
         for name, questions in source:
             tally["images"] += 1
             cases += [(name, what, question) for what, question in questions]
-        refused = refused_with_19(path, cases, tally)
+        usual = {tuple(question[1]): None for name, _, question in cases if name == "usual"}
+        refused = sizing.refused_with_19(path, [list(words) for words in usual], tally)
         lines = probe.ask(path, [case[2] for case in cases])
         for (name, what, question), seen in zip(cases, lines, strict=True):
             probe.stop_at_difference(f"{name}, {what}", question, line_of(question), seen)

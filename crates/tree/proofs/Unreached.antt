@@ -5,24 +5,24 @@
 --     lowest-refused, some-refused     when generating is refused with 19, and its place
 --     after-six, all-zero     what 19 comes after, and what it leaves
 --     sized-lowest     the same of sizing
---     neither-generated, walk-right (Demand.antt)     the third demand, of every table that is refused neither by 6 nor by 19
+--     walks-asked     the third demand, of every table that is refused neither by 6 nor by 19
 use Prim.Native.Nat.{ℕ, _^_, _<_}
 use mathlib.Core.Path.{_≡_}
 use mathlib.Core.Bool.{true}
 use mathlib.Core.Logic.{_↔_}
 use mathlib.Core.List.{List}
-use lib.ListN.{length, replicate}
+use lib.ListN.{length, take, replicate}
 use Rattle.words.specs.Outcome.{result, refused}
 use Rattle.words.proofs.Logic.{options}
 use Rattle.table.specs.Table.{Table}
 use Rattle.table.specs.Check.{readTable}
 use Rattle.selection.proofs.Formula.{Contested, ambiguous-exactly}
-use Rattle.tree.specs.Tree.{tree}
+use Rattle.tree.specs.Tree.{tree, size}
 use Rattle.tree.specs.Reach.{lowestUnreached}
 use Rattle.tree.specs.Generate.{fits, judged, generateOf, leftBy, bufferOf, measureOf}
 use Rattle.tree.proofs.Theorem.{tree-sound}
 use Rattle.tree.proofs.Reach.{Reached, Lowest, none-exactly, lowest-exactly}
-use Rattle.tree.proofs.Demand.{read-sane, clear-judged, nineteen-judged}
+use Rattle.tree.proofs.Demand.{Right, read-sane, clear-judged, nineteen-judged, neither-generated, walk-right}
 use Rattle.tree.proofs.Sizing.{refused-alike}
 
 -- a table that reads, and a buffer of so many words
@@ -53,6 +53,17 @@ module _ (ws : List ℕ) (t : Table) (reads : readTable ws ≡ result t) (room :
   after-six e lost =
       let (f, clean, q) = nineteen-judged ws t reads room e lost in
       (f, λ w c. tree-sound (t .entries) (t .width) (read-sane ws t reads .good) clean w (ambiguous-exactly (t .entries) w .1 c))
+
+-- "what the third demand says of walking is asked of every table that is refused neither by 6 nor by 19": its tree fits, so it is written
+-- (Demand.antt, neither-generated), and every word of the width walks right, in the whole buffer and in the words that were answered
+pub walks-asked : (ws out : List ℕ) (t : Table) → readTable ws ≡ result t → fits (tree (t .entries) (t .width)) (length out) ≡ true
+    → ((w : ℕ) → generateOf (readTable ws) (length out) ≡ refused 6 0 w → ⊥) → ((e : ℕ) → generateOf (readTable ws) (length out) ≡ refused 19 e 0 → ⊥)
+    → (n : ℕ) × (generateOf (readTable ws) (length out) ≡ result n) × ((w : ℕ) → w < 2 ^ (t .width)
+    → Right (t .entries) (t .width) (size (tree (t .entries) (t .width))) (bufferOf (readTable ws) out) w
+    × Right (t .entries) (t .width) (size (tree (t .entries) (t .width))) (take n (bufferOf (readTable ws) out)) w)
+walks-asked ws out t reads f six nineteen =
+    let g = neither-generated ws out t reads f six nineteen in
+    (_, g, walk-right ws out t reads _ g)
 
 -- "the tree buffer is all zero"
 pub all-zero : (ws out : List ℕ) (t : Table) → readTable ws ≡ result t → (e : ℕ) → generateOf (readTable ws) (length out) ≡ refused 19 e 0
