@@ -17,17 +17,8 @@
 #define TEST "check_test"
 #include "words_file.h"
 
+#include "leaves.h"
 #include "lending.h"
-
-/* Whether an entry of the table is named by no leaf of a tree that the checker accepts. */
-static int leaves_one_out(const uint32_t *table, const uint32_t *tree) {
-    uint8_t named[256] = {0};
-    for (uint32_t index = 1; index <= (tree[0] & 0xffff); index++)
-        if (tree[index] >> 28 == 9) named[tree[index] & 0xff] = 1;
-    for (uint32_t entry = 0; entry < (table[0] >> 16 & 0xfff); entry++)
-        if (!named[entry]) return 1;
-    return 0;
-}
 
 /* ------------------------------------------------------------------------- stand-in for the library */
 

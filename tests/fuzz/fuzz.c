@@ -17,6 +17,7 @@
 #include <time.h>
 #include <unistd.h>
 
+#include "../c/leaves.h"
 #include "kilnumber.h"
 #include "reference.h"
 
@@ -95,16 +96,6 @@ enum {
 static int is_wrong_size(void) { return (wrong > LIST_END && wrong < SIZE_END) || (wrong >= SIZE_SWAPPED && wrong < CYCLES_OF_FIRST); }
 static int is_wrong_cycles(void) { return (wrong > SIZE_END && wrong < CYCLES_END) || (wrong >= CYCLES_OF_FIRST && wrong < SIGN_LEFT_OUT); }
 static int is_wrong_operand(void) { return (wrong > CYCLES_END && wrong < NUMBER_END) || wrong >= SIGN_LEFT_OUT; }
-
-/* Whether an entry of the table is named by no leaf of a tree that the checker accepts. */
-static int leaves_one_out(const uint32_t *table, const uint32_t *tree) {
-    uint8_t named[256] = {0};
-    for (uint32_t index = 1; index <= (tree[0] & 0xffff); index++)
-        if (tree[index] >> 28 == 9) named[tree[index] & 0xff] = 1;
-    for (uint32_t entry = 0; entry < (table[0] >> 16 & 0xfff); entry++)
-        if (!named[entry]) return 1;
-    return 0;
-}
 
 #ifdef STAND_IN
 uint64_t kilnumber_walk(const uint8_t *tree, size_t length, uint32_t word) {

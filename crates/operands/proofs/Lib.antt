@@ -7,5 +7,6 @@ pub mod Looking
 pub mod Below
 pub mod Counting
 pub mod Demand
+pub mod Taking
 pub mod Cases
 pub mod Examples
