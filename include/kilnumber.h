@@ -1,6 +1,7 @@
 /*
  * Kilnumber for programs in C and C++: the walk of a decode tree, with the bits that it tests, the size of a table's tree, the check
- * of a tree against its table, the listing of an image, the cycles of an entry, the numbers and texts of operands.
+ * of a tree against its table, the listing of an image, the cycles of an entry, how far its withdrawal reaches, the numbers and texts of
+ * operands.
  *
  * docs/FORMAT.md has all that is written in bits: tables, trees, items and results, with every refusal's number and its place, and
  * the orders in which refusals are looked for. This file gives them names.
@@ -8,8 +9,8 @@
  * - No pointer may be null, also with length 0. Lengths are in words for words and in bytes for bytes.
  * - Any bytes and words may be lent: what is wrong with them is answered, never a fault. Nothing lent is written but `items` and
  *   `text`, and nothing is read past the lengths.
- * - Threads: no call keeps, allocates or locks anything. Calls may run at the same time on the same tree, table and image, as long
- *   as nobody writes to these meanwhile; each listing needs `items` of its own, each text `text` of its own.
+ * - Threads: no call keeps, allocates or locks anything. Calls may run at the same time on the same tree, table, image and list of
+ *   words, as long as nobody writes to these meanwhile; each listing needs `items` of its own, each text `text` of its own.
  * - One tree for all calls: kilnumber_walk and kilnumber_mask take a tree as it stands in a file, as bytes; kilnumber_check and
  *   kilnumber_list take words. Hold it as words (kilnumber_words makes them of a file's bytes), and walk it with
  *   kilnumber_walk_words and kilnumber_mask_words.
@@ -36,7 +37,7 @@ enum kilnumber_refusal {
                                       not 1 to 32, its form is over 2, or its fraction bits are over 16 or over its width */
     KILNUMBER_TREE_SIZE = 5,       /* the table's tree is over the limit of 16,384 words */
     KILNUMBER_AMBIGUOUS = 6,       /* some word is ambiguous by the table; kilnumber_word has it */
-    KILNUMBER_HIGH_WORD = 7,       /* the word has a bit at or above the tree's width */
+    KILNUMBER_HIGH_WORD = 7,       /* a word has a bit at or above the width of the tree or table */
     KILNUMBER_TREE_HEADER = 8,     /* the tree's header or its length is wrong */
     KILNUMBER_DAMAGED_NODE = 9,    /* a node on the path is damaged */
     KILNUMBER_NO_ENTRY = 11,       /* the table has no such entry */
@@ -86,7 +87,7 @@ uint64_t kilnumber_measure(const uint32_t *table, size_t table_words);
 /* Without a refusal: the number of nodes. (The greatest number of tests is kilnumber_tests.) */
 static inline uint32_t kilnumber_nodes(uint64_t result) { return (uint32_t)(result & 0xffff); }
 
-/* After KILNUMBER_AMBIGUOUS: the ambiguous word that generating answers. */
+/* After KILNUMBER_AMBIGUOUS: the ambiguous word; of a size it is the one that generating answers, of a list the first unfit one. */
 static inline uint32_t kilnumber_word(uint64_t result) { return (uint32_t)(result & 0xffffffff); }
 
 /* ------------------------------------------------------------------------------------------------------------- the check */
@@ -129,6 +130,20 @@ uint64_t kilnumber_cycles(const uint32_t *table, size_t table_words, uint32_t en
 
 /* Without a refusal: the number of cycles, at most 65,535. */
 static inline uint32_t kilnumber_cycle_count(uint64_t result) { return (uint32_t)(result & 0xffffffff); }
+
+/* ------------------------------------------------------------------------------------------------------------- the withdrawal */
+
+/* How many words of a list change their answer if one entry is withdrawn from the table: what they select is then another entry or
+ * nothing, or they are ambiguous. That later entries have other numbers then is no change. Each word that selected the entry changes
+ * and no other does: the count is also how many of the words selected it. A word that is in the list twice counts twice.
+ *
+ * A word is unfit if it is not of the width, or if it is ambiguous before the withdrawal. Words that are not in the list are not looked
+ * at: the table need not be unambiguous. It is read once, and each word costs one selection. Refusals: 1 to 4, 11, then for the first
+ * unfit word 7 or 6. */
+uint64_t kilnumber_changed(const uint32_t *table, size_t table_words, uint32_t entry, const uint32_t *words, size_t count);
+
+/* Without a refusal: the count. Bits 31-0 of the result are its lowest, and bits 63-40 the rest of it: it may be over 32 bits. */
+static inline uint64_t kilnumber_changed_words(uint64_t result) { return result >> 40 << 32 | (result & 0xffffffff); }
 
 /* ------------------------------------------------------------------------------------------------------------- the operands */
 

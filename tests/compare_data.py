@@ -2,8 +2,8 @@
 probe selects is what the second implementation selects and what a decoder in decoders/ names, and its cycles are the list's. The twin
 of a table, which is of the other kind, has the same tree and selects the same; without forms it has the same tree. Its forms are those
 written here, and operands of known words come out as known numbers and texts. With two instructions more that cover an old one it has
-no tree. A table that somebody adds to data/, with a list or without, has no such decoder, and is compared with the second
-implementation alone.
+no tree. If an instruction is withdrawn, the words change that the decoder names so. A table that somebody adds to data/, with a list or
+without, has no such decoder, and is compared with the second implementation alone.
 
 Usage: compare_data.py [path of probe [path of mktree]]. Exits with status 1 at the first difference.
 """
@@ -42,6 +42,7 @@ TWINS = Twins(902)
 MASK_SEED = 901                 # words that agree on a mask; the other draws don't depend on them
 FORM_SEED = 903                 # forms that are added
 COVER_SEED = 904                # instructions that are covered
+WITHDRAWAL_SEED = 905           # instructions that are withdrawn
 DECODERS = {"avr": decoders.avr, "riscv": decoders.riscv, "a32": decoders.a32, "buoy": decoders.buoy}
 RANDOM_WORDS = 5400
 WORDS_AT_LEAST_EACH = 30        # words made of each entry, and as many neighbours
@@ -49,6 +50,8 @@ MADE_WORDS = 7500
 ALTERED = 15                    # altered sets of each, which the decoder must tell from the real one
 WORDS_FOR_ALTERED = 40
 COVERED = 3                     # instructions of each set that are covered
+WITHDRAWN = 12                  # instructions of each set that are withdrawn
+WORDS_FOR_WITHDRAWN = 40
 ADDED_WORDS = 200               # looked up in a table that somebody added
 TWIN_EACH = 5                   # every so many-th word is looked up in the twin too
 
@@ -497,6 +500,30 @@ def compare_covered(path, mktree_path, rng, one, tally):
         tally["covered"] += 1
 
 
+# ---------------------------------------------------------------------------- instructions that are withdrawn
+
+def words_about(rng, instructions, instruction, width):
+    """Words made of the instruction and of others, some of them twice, and neighbours."""
+    made = [made_word(rng, rng.choice([instruction, rng.choice(instructions)]), width) for _ in range(WORDS_FOR_WITHDRAWN // 2)]
+    return made + [word ^ rng.choice([0, 1 << rng.randrange(width)]) for word in made]
+
+
+def compare_withdrawn(path, rng, one, tally):
+    """Of instructions with a mnemonic of their own: as many words change as the decoder names so."""
+    instructions, names = one.set.instructions, Counter(instruction.mnemonic for instruction in one.set.instructions)
+    alone = [number for number, instruction in enumerate(instructions) if names[instruction.mnemonic] == 1]
+    questions = [("changed", one.words, number, words_about(rng, instructions, instructions[number], one.set.width))
+                 for number in rng.sample(alone, WITHDRAWN)]
+    lines = probe.ask(path, questions)
+    for question, seen in zip(questions, lines, strict=True):
+        _, _, number, asked = question
+        named = sum(decoded_name(one.name, word) == instructions[number].mnemonic for word in asked)
+        probe.stop_at_difference(f"{one.name}, withdrawn", question, f"22 0 0 00000000 {named}", seen)
+        probe.stop_at_difference(f"{one.name}, withdrawn, by the second", question, line_of(question), seen)
+        tally["withdrawn"] += named > 0
+    twinned.compare(path, TWINS, [(one.name, *answered) for answered in zip(questions, lines)], tally)
+
+
 # ---------------------------------------------------------------------------- tables that somebody added
 
 def added(folder):
@@ -510,14 +537,16 @@ def words_in(file):
 
 
 def compare_added(path, mktree_path, rng, file, tally):
-    """What probe reads, what mktree prints and what probe selects: the second implementation's, refusals too."""
+    """What probe reads, selects and counts and what mktree prints: the second implementation's, refusals too."""
     words, data = words_in(file), file.read_bytes()
     if file.stem in make.SETS and data != table_bytes(make.SETS[file.stem]):
         stop(f"data/{file.name} isn't what data/make.py makes")
     mktree.stop_at_difference(file.name, data, mktree_text(data), mktree.text_of(mktree_path, data))
     width = words[0] & 0xFF if words else 0
-    questions = [("read", words)] + [("lookup", words, rng.getrandbits(min(width, 32) or 32)) for _ in range(ADDED_WORDS)]
-    questions += [("cycles", words, entry) for entry in (0, 1, 255, 256)]
+    asked = [rng.getrandbits(min(width, 32) or 32) for _ in range(ADDED_WORDS)]
+    questions = [("read", words), *(("lookup", words, word) for word in asked)]
+    for entry in (0, 1, 255, 256):
+        questions += [("cycles", words, entry), ("changed", words, entry, asked), ("changed", words, entry, [])]
     for question, line in zip(questions, probe.ask(path, questions), strict=True):
         probe.stop_at_difference(file.name, question, line_of(question), line)
     tally["added"] += 1
@@ -544,7 +573,7 @@ def least(sets):
     needed |= {"words that agree": 60, "cycles": 2 * sum(len(one.set.instructions) for one in sets), "cycles, not 0": 400,
                "twins": 4 * len(sets) + 1, "twins by the second": 2, "without forms": len(sets), "forms": 36, "operands": 45,
                "operands below zero": 25, "altered forms": 160, "altered forms of operands": 60, "forms in lists": 16,
-               "covered": COVERED * len(sets)}
+               "covered": COVERED * len(sets), "withdrawn": WITHDRAWN * len(sets)}
     for one in sets:
         needed |= {f"{one.name}, twin": 20000 // TWIN_EACH}
         needed |= {one.name: 20000, f"{one.name}, made": 7000, f"{one.name}, neighbours": 7000}
@@ -571,6 +600,7 @@ def main():
         compare_forms(path, one, tally)
         notice_forms(path, random.Random(FORM_SEED), one, tally)
         compare_covered(path, mktree_path, random.Random(COVER_SEED), one, tally)
+        compare_withdrawn(path, random.Random(WITHDRAWAL_SEED), one, tally)
         if one.name == "avr":
             compare_listing(path, one, tree, tally)
     try_lists(tally)
@@ -584,7 +614,7 @@ def main():
           f"{tally['known']} known words and {tally['words that agree']} that agree on a mask, "
           f"{tally['listed']} items listed, {tally['altered']} altered sets noticed; {tally['cycles']} cycles; {tally['forms']} forms, "
           f"{tally['operands']} operands known by number and text, {tally['altered forms']} altered forms noticed; "
-          f"{tally['covered']} sets with a covered instruction refused with 19; of the twins "
+          f"{tally['covered']} sets with a covered instruction refused with 19; {tally['withdrawn']} instructions withdrawn; of the twins "
           f"{in_twins} words and {tally['twins']} other questions; "
           f"{tally['added']} tables added by others")
 

@@ -1,4 +1,5 @@
-"""Every table of a small family, every word: probe's lookup, generate, check, walk and sizing against the second implementation.
+"""Every table of a small family, every word: probe's lookup, generate, check, walk, sizing and withdrawals against the second
+implementation.
 
 Usage: exhaustive.py [path of probe] [long]. Exits with status 1 at the first difference. All tables are of width 3 at most:
 
@@ -14,9 +15,11 @@ Each table is looked up with all words and two that are too high, generated into
 many as its tree has and one fewer; its tree is checked and walked with all words, and each walk's count is the number of ones in
 its mask. (If a table is refused with 19, the tree is the second implementation's.) Probe's own lookups of all words say whether
 generating must give a tree, 6, or 19 and for which entry. It is sized: refused as it is generated into 16 words, else with one node
-fewer than words, and with the greatest count of these walks. Tables without conditions are also checked with all trees of one and
-three nodes (two entries: a part of them but for the long form). The same is asked of a twin of each table, which has cycles. At the
-end mistakes are put into the second implementation one by one, and each must give another line somewhere.
+fewer than words, and with the greatest count of these walks. Each entry is withdrawn, and one that isn't there, with all words that
+are not ambiguous, and the first with all words and two that are too high; probe's own lookups say how many words change, or which one is
+unfit. Tables without conditions are also checked with all trees of one and three nodes (two entries: a part of them but for the long
+form). The same is asked of a twin of each table, which has cycles. At the end mistakes are put into the second implementation one by
+one, and each must give another line somewhere.
 """
 
 import itertools
@@ -27,8 +30,10 @@ from collections import Counter
 import masks
 import probe
 import twinned
-from second import checker, measure, reach, selection, tree, walk, wrong_cycles, wrong_masks, wrong_reach, wrong_sizes
-from second.lines import line_of
+from second import checker, measure, reach, selection, tree, walk, withdrawal, wrong_cycles, wrong_masks, wrong_reach, wrong_sizes, \
+    wrong_withdrawal
+from second.lines import count_line, line_of
+from second.reader import Refusal
 from second.tables import EntryPlan, TablePlan, free_runs, lay_out, own_bits
 from second.twins import Twins
 
@@ -113,6 +118,15 @@ def small_trees(entries):
         yield [0x70030003, 0x80000003 | bit << 23, zero, one]
 
 
+def withdrawals(words):
+    width, table = words[0] & 0xFF, selection.read_once(tuple(words))
+    every = range(1 << width)
+    fit = [word for word in every if selection.select(table, word) != selection.AMBIGUOUS]
+    for entry in range(len(table.entries) + 1):
+        yield "changed", words, entry, fit
+    yield "changed", words, 0, [*every, *HIGH_WORDS]
+
+
 def questions_of(words, with_small_trees):
     width = words[0] & 0xFF
     for word in (*range(1 << width), *HIGH_WORDS):
@@ -126,6 +140,7 @@ def questions_of(words, with_small_trees):
         yield "check", words, made
         for word in (*range(1 << width), *HIGH_WORDS):
             yield "walk", made, word
+    yield from withdrawals(words)
     yield "measure", words
     if with_small_trees:
         yield from (("check", words, other) for other in small_trees(words[0] >> 16 & 0xFFF))
@@ -160,6 +175,24 @@ def found_in(line):
     return selection.AMBIGUOUS if number == "6" else named if named == selection.NOTHING else int(named)
 
 
+def changed_by_words(words, entry, listed, found):
+    """How many words selected the entry, or the refusal, by what probe's own lookups found. A word that is not there is too high."""
+    if entry >= words[0] >> 16 & 0xFFF:
+        return Refusal(11)
+    for word in listed:
+        if word not in found:
+            return Refusal(7)
+        if found[word] == selection.AMBIGUOUS:
+            return Refusal(6, word=word)
+    return sum(found[word] == entry for word in listed)
+
+
+def check_changed(name, question, seen, found, tally):
+    outcome = changed_by_words(*question[1:], found)
+    probe.stop_at_difference(f"{name}, by all words", question, count_line(outcome), seen)
+    tally["changed 0, over 0"] += not isinstance(outcome, Refusal) and outcome > 0
+
+
 def check_size(name, question, seen, made, most):
     """Sizing against the line of generating into enough words, and against the greatest count of all walks."""
     _, number, place, word, *words = made.split(" ")
@@ -168,7 +201,7 @@ def check_size(name, question, seen, made, most):
 
 
 def compare(path, long):
-    tally, twins, found = Counter(), Twins(SEED), set()
+    tally, twins, found = Counter(), Twins(SEED), {}
     for group in in_groups(all_questions(long)):
         lines = probe.ask(path, [question for _, question in group])
         twinned.compare(path, twins, [(*asked, seen) for asked, seen in zip(group, lines)], tally)
@@ -180,17 +213,19 @@ def compare(path, long):
             tally[question[0]] += 1
             tally["questions"] += 1
             if question[0] == "lookup" and question[2] not in HIGH_WORDS:
-                found.add(found_in(seen))
+                found[question[2]] = found_in(seen)
             if question[0] == "generate" and question[2] == BUFFER:
                 made, most = seen.partition(" |")[0], 0
-                check_reach(name, question, made, found, tally)
+                check_reach(name, question, made, set(found.values()), tally)
             if question[0] == "walk" and parts[1] == "0":
                 count, mask = masks.tests_and_mask(seen)
                 masks.check_ones(name, question, count, mask)
                 most = max(most, count)
+            if question[0] == "changed":
+                check_changed(name, question, seen, found, tally)
             if question[0] == "measure":
                 check_size(name, question, seen, made, most)
-                found = set()
+                found = {}
     return tally
 
 
@@ -256,8 +291,9 @@ MISTAKES = [
     *((wrong.__doc__, "refusal_of", wrong) for wrong in wrong_reach.WRONG),
     *((wrong.__doc__, "generate", wrong) for wrong in wrong_reach.WRONG_BUFFERS),
     ("fewer cycles decide", "more_specific", wrong_cycles.fewer_cycles_win),
+    *((wrong.__doc__, "changed", wrong) for wrong in wrong_withdrawal.WRONG_RULES),
 ]
-MODULES = {"selection": selection, "tree": tree, "checker": checker, "walk": walk, "measure": measure}
+MODULES = {"selection": selection, "tree": tree, "checker": checker, "walk": walk, "measure": measure, "withdrawal": withdrawal}
 RIGHT = {(name, function): getattr(module, function) for name, module in MODULES.items() for _, function, _ in MISTAKES
          if hasattr(module, function)}
 REMEMBERED = (tree.nodes_once, checker.steps_once, checker.first_missing_once, checker.check_once)
@@ -307,7 +343,8 @@ LEAST = {"lookup 0": 50000, "lookup 6": 500, "lookup 7": 10000, "generate 0": 10
          "generate 19": 4000, "check 0": 8000, "check 14": 5000, "walk 0": 50000, "walk 7": 10000, "measure 0": 5000, "measure 6": 300,
          "measure 19": 2000, "by words 0": 7000, "by words 6": 1500, "by words 19": 2000, "by words 19, not entry 0": 600,
          "by words 19, one condition": 400, "by words 19, two conditions": 400, "by words 19, 2 of width 1": 100,
-         "by words 19, 3 of width 1": 1200, "by words 19, 3 of width 2": 90, "twins": 100000, "twins by the second": 5000}
+         "by words 19, 3 of width 1": 1200, "by words 19, 3 of width 2": 90, "changed 0": 15000, "changed 0, over 0": 10000,
+         "changed 6": 1000, "changed 7": 6000, "changed 11": 8000, "twins": 150000, "twins by the second": 7000}
 
 
 def main():
@@ -317,7 +354,7 @@ def main():
     probe.require_enough(tally, LEAST)
     noticed = notice_mistakes()
     tables = sum(1 for _ in family(long))
-    counts = ", ".join(f"{name}: {tally[name]}" for name in ("lookup", "generate", "check", "walk", "measure"))
+    counts = ", ".join(f"{name}: {tally[name]}" for name in ("lookup", "generate", "check", "walk", "measure", "changed"))
     by_words = ", ".join(f"{what}: {tally[f'by words {number}']}" for what, number in (("tree", 0), ("6", 6), ("19", 19)))
     print(f"exhaustive good: {tables} tables, by all words {by_words}; {tally['questions']} questions ({counts}), {tally['twins']} to twins; "
           f"{noticed} of {len(MISTAKES)} mistakes noticed")

@@ -35,11 +35,12 @@ def part_of(value):
     return words_of(part_bytes(value))
 
 
-# The requests in the order of their numbers, from 1, and what a call takes from each part: words, bytes, a number or a long.
+# The requests in the order of their numbers, and what a call takes from each part: words, bytes, a number or a long.
 FORMS = {"read": "W", "lookup": "WN", "generate": "WW", "walk bytes": "BN", "decode": "WNW", "encode": "WNW", "check": "WW",
          "step": "WWBN", "list": "WWBW", "walk": "WN", "mask": "BN", "measure": "W", "cycles": "WN",
-         "signed": "NN", "stored": "NL", "text": "NNB"}
-NAMES = list(FORMS)
+         "signed": "NN", "stored": "NL", "text": "NNB", "changed": "WNW"}
+NUMBERS = dict(zip(FORMS, (*range(1, 17), 22), strict=True))
+NAMES = {number: name for name, number in NUMBERS.items()}
 
 
 def parts_of(question):
@@ -52,10 +53,10 @@ def request_bytes(question):
     """A request. A question is ("read", table), ("lookup", table, word), ("generate", table, buffer),
     ("walk bytes", bytes, word), ("decode", table, word, buffer), ("encode", table, entry, values), ("check", table, tree),
     ("step", table, tree, image, address), ("list", table, tree, image, buffer), ("walk", tree, word), ("mask", bytes, word),
-    ("measure", table), ("cycles", table, entry), ("signed", field, value), ("stored", field, number) or
-    ("text", field, value, bytes)."""
+    ("measure", table), ("cycles", table, entry), ("signed", field, value), ("stored", field, number),
+    ("text", field, value, bytes) or ("changed", table, entry, words)."""
     parts = parts_of(question)
-    return pack([NAMES.index(question[0]) + 1, len(parts)]) + b"".join(part_bytes(part) for part in parts)
+    return pack([NUMBERS[question[0]], len(parts)]) + b"".join(part_bytes(part) for part in parts)
 
 
 def request_of(question):
@@ -75,7 +76,7 @@ def long_of(data):
 
 def question_of(number, parts):
     """The question of a request, given its number and the bytes of its parts. Parts that it does not have are empty."""
-    name = NAMES[number - 1]
+    name = NAMES[number]
     take = {"W": words_of, "B": bytes, "N": lambda part: (words_of(part) or [0])[0], "L": long_of}
     return name, *(take[form](part) for form, part in zip(FORMS[name], parts + [b""] * 8))
 

@@ -26,7 +26,7 @@ POINT = 0x32040008                  # a field of eight bits, four of them after 
 HALF_TEXT = "2d 30 2e 35 30 30 30"  # -0.5000
 
 WORDS_IN_FULL_INPUT = 262144        # 1,048,576 bytes
-UNKNOWN = (0, len(probe.NAMES) + 1, 100, 255, 0x100, 0x101, 0x10001, 0x1000001, 0x80000001, 0x7FFFFFFF, 0xFFFFFFFF)
+UNKNOWN = (0, *range(17, 22), 23, 100, 255, 0x100, 0x101, 0x116, 0x10001, 0x1000001, 0x80000001, 0x7FFFFFFF, 0xFFFFFFFF)
 
 
 def bytes_of(words, trailing=b""):
@@ -85,6 +85,7 @@ def parts_not_taken():
     yield "a buffer after a value", asked(14, POINT, 0xF8, EIGHT), ["14 0 0 00000000 -8"]
     yield "a buffer after a long", asked(15, POINT, [0xFFFFFFF8, 0xFFFFFFFF], EIGHT), ["15 0 0 00000000 000000f8"]
     yield "a buffer after a text's buffer", asked(16, POINT, 0xF8, b"abcdefg", EIGHT), ["16 0 0 00000000 7 | " + HALF_TEXT]
+    yield "a buffer after listed words", asked(22, PRINTED, 0, [3], EIGHT), ["22 0 0 00000000 1"]
 
 
 def parts_not_there():
@@ -113,10 +114,17 @@ def parts_not_there():
     yield "text, no value", bytes_of([16, 1, *probe.part_of(POINT)]), ["16 18 0 00000000 |"]
     yield "text, no buffer", bytes_of([16, 2, *probe.part_of(POINT), *probe.part_of(0xF8)]), ["16 18 0 00000000 |"]
     yield "text, an empty value", asked(16, POINT, b"", b"abcdefg"), ["16 0 0 00000000 6 | 30 2e 30 30 30 30 67"]
+    yield "withdrawal, no parts", bytes_of([22, 0]), ["22 1 0 00000000"]
+    yield "withdrawal, no entry", bytes_of([22, 1, *printed]), ["22 0 0 00000000 0"]
+    yield "withdrawal, no words", asked(22, PRINTED, 0), ["22 0 0 00000000 0"]
+    yield "withdrawal, no words, no such entry", asked(22, PRINTED, 1), ["22 11 0 00000000"]
+    yield "withdrawal, empty words", asked(22, PRINTED, 0, []), ["22 0 0 00000000 0"]
+    yield "withdrawal, an empty entry", asked(22, PRINTED, b"", [3, 2]), ["22 0 0 00000000 2"]
     # what comes next in the input is no part of it
     yield "no number is taken from the next request", bytes_of([15, 1, *probe.part_of(POINT), *GOOD]), ["15 0 0 00000000 00000000", GOOD_LINE]
     yield "no buffer is taken from the next request", bytes_of([16, 2, *probe.part_of(POINT), *probe.part_of(0xF8), *GOOD]), \
         ["16 18 0 00000000 |", GOOD_LINE]
+    yield "no words are taken from the next request", asked(22, PRINTED, 0) + bytes_of(GOOD), ["22 0 0 00000000 0", GOOD_LINE]
     yield "nothing is taken from the next request", bytes_of([2, 1, *printed, *GOOD]), ["2 0 0 00000000 nothing", GOOD_LINE]
     yield "no table is taken from the next request", bytes_of([12, 0, *GOOD]), ["12 1 0 00000000", GOOD_LINE]
 
@@ -133,6 +141,9 @@ def words_of_parts():
         yield "a buffer, " + what, asked(5, PRINTED, 0, probe.pack(EIGHT) + rest), ["5 0 0 00000000 nothing | " + EIGHT_TEXT]
         yield "a buffer of no word, " + what, asked(3, [], rest), ["3 1 0 00000000 |"]
         yield "values, " + what, asked(6, PRINTED, 0, probe.pack([1]) + rest), ["6 0 0 00000000 00000003"]
+        yield "a table to withdraw from, " + what, asked(22, probe.pack(PRINTED) + rest, 0, [3]), ["22 0 0 00000000 1"]
+        yield "listed words, " + what, asked(22, PRINTED, 0, probe.pack([3, 3, 0]) + rest), ["22 0 0 00000000 2"]
+        yield "listed words, none whole, " + what, asked(22, PRINTED, 0, rest) + bytes_of(GOOD), ["22 0 0 00000000 0", GOOD_LINE]
         yield "a tree of words, " + what, asked(10, tree + rest, 3), ["10 0 0 00000000 0 1 00000002"]
         yield "a tree of bytes, " + what, asked(4, tree + rest, 3), \
             ["4 0 0 00000000 " + ("0000000800000000" if rest else "0000000000010000")]
@@ -192,6 +203,11 @@ def numbers():
     yield "an entry is 32 bits", asked(6, PRINTED, 0x80000000, [1]), ["6 11 0 00000000"]
     yield "an entry for its cycles is 32 bits", asked(13, CYCLES, 0x80000000), ["13 11 0 00000000"]
     yield "an entry for its cycles is the first word", asked(13, CYCLES, [1, 0]), ["13 11 0 00000000"]
+    yield "an entry to withdraw is 32 bits", asked(22, PRINTED, 0x80000000, [3]), ["22 11 0 00000000"]
+    yield "an entry to withdraw has more than 8 bits", asked(22, PRINTED, 0x100, [3]), ["22 11 0 00000000"]
+    yield "an entry to withdraw is the first word", asked(22, PRINTED, [1, 0], [3]), ["22 11 0 00000000"]
+    yield "an entry to withdraw that is not whole", asked(22, PRINTED, b"\x01\0\0", [3]), ["22 0 0 00000000 1"]
+    yield "listed words are 32 bits", asked(22, PRINTED, 0, [3, 0x80000003]), ["22 7 0 00000000"]
     yield "a field's word is the first word", asked(14, [POINT, 0], [0xF8, 1]), ["14 0 0 00000000 -8"]
     yield "a field's word is 32 bits", asked(14, POINT | 1 << 31, 0xF8), ["14 2 0 00000000"]
     yield "a field's word that is not whole", asked(14, b"\x08\x00\x04", 0xF8), ["14 2 0 00000000"]
@@ -260,6 +276,10 @@ def full_inputs():
     yield "full, all whole", bytes_of(GOOD * 32768), [GOOD_LINE] * 32768
     most = WORDS_IN_FULL_INPUT - 3
     yield "full, one request", bytes_of([1, 1, 4 * most] + [0] * most), ["1 1 0 00000000"]
+    listed = WORDS_IN_FULL_INPUT - 11
+    yield "full, one list", bytes_of([22, 3, 20, *PRINTED, 4, 0, 4 * listed] + [3] * listed), [f"22 0 0 00000000 {listed}"]
+    yield "full, one list, its last word unfit", bytes_of([22, 3, 20, *PRINTED, 4, 0, 4 * listed] + [3] * (listed - 1) + [4]), \
+        ["22 7 0 00000000"]
     yield "full, one byte too many asked", bytes_of([1, 1, 4 * most + 1] + [0] * most), ["stopped 0"]
     yield "full, the last is not whole", bytes_of(GOOD * 32767 + EMPTY * 2 + [1, 1]), [GOOD_LINE] * 32767 + [EMPTY_LINE] * 2 + ["stopped 262142"]
     yield "full, the last is unknown", bytes_of(GOOD * 32767 + EMPTY * 2 + [0, 0]), [GOOD_LINE] * 32767 + [EMPTY_LINE] * 2 + ["stopped 262142"]

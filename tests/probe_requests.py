@@ -1,4 +1,4 @@
-"""Tests of requests 2 to 16 as a whole (docs/probe.md): cut after each word, lengths too large, trailing bytes, parts left out
+"""Tests of requests 2 to 16 and 22 as a whole (docs/probe.md): cut after each word, lengths too large, trailing bytes, parts left out
 and added, and lines longer than probe's page. Whole requests get the second implementation's line.
 
 Usage: probe_requests.py [path of probe]. Exits with status 1 at the first difference. It stands beside probe.py.
@@ -40,6 +40,8 @@ QUESTIONS = [
     ("signed", POINT, 0xF8), ("signed", POINT, 0x100), ("signed", 0, 0),
     ("stored", POINT, -8), ("stored", 0x30000020, -2 ** 63), ("stored", 0, 0),
     ("text", POINT, 0xF8, b"abcdefgh"), ("text", POINT, 0xF8, b"abcde"), ("text", POINT, 0x100, b"a"), ("text", 0, 0, b""),
+    ("changed", PRINTED, 0, [3, 0, 2]), ("changed", [0x10020001, *TWIN, *TWIN], 0, [0, 1, 2]), ("changed", EXCLUDED, 0xFFFFFFFF, [2]),
+    ("changed", [], 0, []),
 ]
 TOO_LARGE = (0x100, 262144, 0x3FFFFFFF, 0x40000000, 0x40000005, 0x7FFFFFFF, 0x80000000, 0xFFFFFFFA, 0xFFFFFFFB, 0xFFFFFFFC,
              0xFFFFFFFD, 0xFFFFFFFE, 0xFFFFFFFF)

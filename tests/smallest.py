@@ -41,14 +41,14 @@ FAULTS = {
         "form over 2, a field's word by itself", "fraction bits over 16, a field's word by itself", "own bits not covered",
         "own bits not covered, with a field"],
     5: ["tree does not fit", "over 16,384", "over 16,384, sizing"],
-    6: ["generating, by mktree", "generating", "sizing", "lookup", "decode"],
-    7: ["lookup", "decode", "walk", "walk for C"],
+    6: ["generating, by mktree", "generating", "sizing", "lookup", "decode", "withdrawal"],
+    7: ["lookup", "decode", "withdrawal", "walk", "walk for C"],
     8: ["length 0", "kind", "spare bit", "width 0", "width 33", "no nodes", "more nodes than words after it", "length 0, for C",
         "length not a multiple of four, for C"],
     9: ["kind, below 8", "kind, above 10", "spare bit, test", "spare bit, entry", "spare bit, nothing", "tested bit at the width",
         "one side below own + 2", "one side above the number of nodes", "kind, for C"],
     10: ["7 words", "no words"],
-    11: ["no such entry", "too few values", "too many values", "no such entry, cycles"],
+    11: ["no such entry", "too few values", "too many values", "no such entry, cycles", "no such entry, withdrawal"],
     12: ["value does not fit", "value does not fit, the second", "stored value out of range", "number out of range, above", "number out of range, below",
          "number out of range, plain and below zero", "stored value out of range, text"],
     13: ["selects another entry", "selects nothing", "ambiguous"],
@@ -69,7 +69,8 @@ WORDS = {6, 13}
 FAULTY_TABLE = [1, 2, 3, 4]
 ALLOWED = {1: FAULTY_TABLE, 2: FAULTY_TABLE + [7, 6], 3: FAULTY_TABLE + [5, 6, 19], 4: [8, 7, 9], 5: FAULTY_TABLE + [10, 7, 6],
            6: FAULTY_TABLE + [11, 12, 13], 7: FAULTY_TABLE + [14], 8: FAULTY_TABLE + [15, 16, 14], 9: FAULTY_TABLE + [15, 16, 14, 17],
-           10: [8, 7, 9], 12: FAULTY_TABLE + [5, 6, 19], 13: FAULTY_TABLE + [11], 14: [2, 4, 12], 15: [2, 4, 12], 16: [2, 4, 12, 18]}
+           10: [8, 7, 9], 12: FAULTY_TABLE + [5, 6, 19], 13: FAULTY_TABLE + [11], 14: [2, 4, 12], 15: [2, 4, 12], 16: [2, 4, 12, 18],
+           22: FAULTY_TABLE + [11, 7, 6]}
 GENERATE, FOR_C, DECODE, LIST, TEXT = 3, 4, 5, 9, 16
 UNREACHED = 19
 MOST_TREE_WORDS = 16384
@@ -227,7 +228,7 @@ def table_questions(words):
     """Every call that takes a table, with other faults beside the table's, which come later."""
     return [("read", words), ("lookup", words, 0xFFFFFFFF), ("generate", words, MARKS[:3]), ("decode", words, 0xFFFFFFFF, MARKS[:7]),
             ("encode", words, 999, [7]), ("check", words, []), ("step", words, [], b"\x00", 9), ("list", words, [], b"\x00", MARKS[:2]),
-            ("measure", words), ("cycles", words, 999)]
+            ("measure", words), ("cycles", words, 999), ("changed", words, 999, [0xFFFFFFFF])]
 
 
 def other_questions(words):
@@ -237,7 +238,7 @@ def other_questions(words):
     for word in (0, 1):
         asked += [("lookup", words, word), ("decode", words, word, MARKS[:8])]
     for entry in range(words[0] >> 16 & 0xFFF):
-        asked += [("cycles", words, entry), ("encode", words, entry, []), ("encode", words, entry, [1])]
+        asked += [("cycles", words, entry), ("encode", words, entry, []), ("encode", words, entry, [1]), ("changed", words, entry, [0, 1])]
     return asked
 
 

@@ -8,7 +8,7 @@ from second.tables import MOST_WORDS
 
 FAULTS = ("1", "2", "3", "4")
 # The calls that take a table, but for the one that gives cycles.
-CALLS = ("read", "lookup", "generate", "decode", "encode", "check", "step", "list", "measure")
+CALLS = ("read", "lookup", "generate", "decode", "encode", "check", "step", "list", "measure", "changed")
 SECOND_EACH = 20    # every so many-th line is the second implementation's too; 0: none
 
 

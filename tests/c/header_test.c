@@ -1,6 +1,7 @@
 /*
  * The header's names, accessors and helpers; compiled as C and as C++, linked with the library. Every number here is from
- * documents 01 and 02, and not taken from the header; where sizes, cycles and operands have their parts is from docs/FORMAT.md.
+ * documents 01 and 02, and not taken from the header; where sizes, cycles, withdrawals and operands have their parts is from
+ * docs/FORMAT.md.
  *
  * The table: width 32, entry 0 of 16 bits `1...`, entry 1 of 32 bits `01..`. Its tree tests bit 31, then bit 30. The one with cycles:
  * the same, 77 and 65,535 of them.
@@ -138,6 +139,32 @@ static void cycles(const uint32_t *tree) {
     expect("nor does the tree", kilnumber_check(with_cycles, 11, tree, TREE_WORDS), 0);
 }
 
+static void withdrawals(void) {
+    static const uint32_t words[] = {0x80000000, 0x40000000, 0xffffffff, 0, 0x80000000}, of_width_3[] = {4, 5, 8}, zeros[300] = {0};
+    uint32_t high = 256;
+    size_t many = sizeof zeros / 4;
+    uint64_t result = kilnumber_changed(table, 9, 0, words, 5);
+    expect("three words of five", result, 3);
+    expect("how many they are", kilnumber_changed_words(result), 3);
+    expect("those of the other entry", kilnumber_changed(table, 9, 1, words, 5), 1);
+    expect("those of an empty list", kilnumber_changed(table, 9, 1, words, 0), 0);
+    expect("a table with an ambiguous word that is not listed", kilnumber_changed(ambiguous, 9, 0, of_width_3, 1), 1);
+    result = kilnumber_changed(ambiguous, 9, 0, of_width_3, 3);
+    expect("an ambiguous word", kilnumber_number(result), KILNUMBER_AMBIGUOUS);
+    expect("as itself", kilnumber_word(result), 5);
+    expect("number 7 alone", kilnumber_changed(ambiguous, 9, 0, of_width_3 + 2, 1), (uint64_t)KILNUMBER_HIGH_WORD << 32);
+    expect("number 11 alone", kilnumber_changed(ambiguous, 9, 2, of_width_3, 3), (uint64_t)KILNUMBER_NO_ENTRY << 32);
+    expect("an entry of more than eight bits", kilnumber_number(kilnumber_changed(table, 9, high, words, 5)), 11);
+    expect("an entry that no word selects", kilnumber_changed(covered, 11, 1, zeros, many), 0);
+    expect("a list of more than 255 words", kilnumber_changed(covered, 11, 0, zeros, many), 300);
+    result = kilnumber_changed(table, 8, 0, words, 5);
+    expect("a table that ends early", kilnumber_number(result), KILNUMBER_TABLE_WORD);
+    expect("its place", kilnumber_list_place(result), 8);
+    expect("a count of 32 bits", kilnumber_changed_words(0xffffffff), 0xffffffff);
+    expect("the count of all words", kilnumber_changed_words((uint64_t)1 << 40), (uint64_t)1 << 32);
+    expect("a count of 56 bits", kilnumber_changed_words(0xabcdef0089abcdef), 0xabcdef89abcdef);
+}
+
 /* Fields by themselves. Plain, signed and fixed point with 16 fraction bits, each of 32 bits; of eight bits, four of them after the point;
  * a spare bit, and a form that there is not. */
 static const uint32_t plain = 0x30000020, two_s = 0x31000020, point = 0x32100020, gain = 0x32040008;
@@ -186,6 +213,7 @@ int main(void) {
     check(tree);
     list(tree);
     cycles(tree);
+    withdrawals();
     whole_numbers();
     texts();
     printf("header good: %u compared\n", compared);

@@ -23,14 +23,16 @@ static void touched(int number) {
     _exit(write(STDOUT_FILENO, text, sizeof text - 1) < 0 ? 2 : 1);
 }
 
-static struct room make_room(void) {
-    size_t page = (size_t)sysconf(_SC_PAGESIZE), size = (4u * MOST_WORDS + page - 1) / page * page;
+static struct room make_room_for(size_t words) {
+    size_t page = (size_t)sysconf(_SC_PAGESIZE), size = (4 * words + page - 1) / page * page;
     uint8_t *from = (uint8_t *)mmap(NULL, size + 2 * page, PROT_READ | PROT_WRITE, MAP_PRIVATE | MAP_ANONYMOUS, -1, 0);
     if (from == MAP_FAILED || mprotect(from, page, PROT_NONE) != 0 || mprotect(from + page + size, page, PROT_NONE) != 0) stop("no memory");
     if (signal(SIGSEGV, touched) == SIG_ERR) stop("no handler");
     struct room room = {from + page, from + page + size};
     return room;
 }
+
+static struct room make_room(void) { return make_room_for(MOST_WORDS); }
 
 static uint8_t *lend_bytes(struct room room, const void *bytes, size_t count, int at_start) {
     uint8_t *to = at_start ? room.start : room.guard - count;

@@ -1,12 +1,13 @@
 /*
  * Hostile inputs for kilnumber_walk, kilnumber_mask, kilnumber_measure, kilnumber_check, kilnumber_list, kilnumber_cycles,
- * kilnumber_signed, kilnumber_stored and kilnumber_text: what they answer against reference.h, and whether they touch other memory.
+ * kilnumber_changed, kilnumber_signed, kilnumber_stored and kilnumber_text: what they answer against reference.h, and whether they touch
+ * other memory.
  *
- * Usage: fuzz trees lists sizes walks listings tables asked operands (files of tests/c/make_trees.py, make_lists.py and
- * tests/c/make_sizes.py, then how many walks, listings, sized tables, tables asked for cycles and operands).
+ * Usage: fuzz trees lists sizes walks listings tables asked withdrawn operands (files of tests/c/make_trees.py, make_lists.py and
+ * tests/c/make_sizes.py, then how many walks, listings, sized tables, tables asked for cycles, tables with an entry withdrawn and operands).
  * Inputs are altered at random; an input that came to a new place of the reference (check, index or tests passed) is kept and
  * altered further. Everything lent lies between pages that can't be touched, and must be unchanged afterwards.
- * With -DSTAND_IN there is no library but the reference itself, wrong in the way that a ninth argument numbers.
+ * With -DSTAND_IN there is no library but the reference itself, wrong in the way that a tenth argument numbers.
  */
 
 #define _DEFAULT_SOURCE
@@ -25,6 +26,8 @@
 #define MOST_KEPT 20000u
 #define WORDS_A_TREE 8u
 #define ENTRIES_A_TABLE 6u
+#define LISTS_A_TABLE 4u
+#define MOST_LISTED 600u
 #define MOST_LIST_WORDS 4096u
 #define MOST_SIZE_WORDS (MOST_TABLE_WORDS + 4)
 #define MOST_ALTERED_WORDS 512u  /* of a table that is sized: the reference takes long where there are many entries */
@@ -87,15 +90,20 @@ enum {
     SIZE_ENTRY_ABOVE, SIZE_LIMIT_LOWER, SIZE_READS_PAST, SIZE_READS_BEFORE, SIZE_WRITES_TABLE,
     CYCLES_OF_FIRST, CYCLES_OF_NEXT, CYCLES_LOW_BYTE, CYCLES_ENTRY_BYTE, CYCLES_AT_COUNT, CYCLES_NUMBER_ABOVE, CYCLES_NO_PLACE,
     CYCLES_PLACE_OF_11, CYCLES_READS_PAST, CYCLES_READS_BEFORE, CYCLES_WRITES_TABLE,
+    CHANGED_OTHERS, CHANGED_CLAIMED, CHANGED_FIRST_OUT, CHANGED_LAST_OUT, CHANGED_LOW_BYTE, CHANGED_ABOVE, CHANGED_ENTRY_BYTE,
+    CHANGED_AT_COUNT, CHANGED_NUMBER_ABOVE, CHANGED_NO_PLACE, CHANGED_NO_WORD, CHANGED_WORD_OF_7, CHANGED_PLACE_OF_11, CHANGED_EMPTY,
+    CHANGED_REACH, CHANGED_UNLISTED, CHANGED_READS_PAST, CHANGED_READS_BEFORE, CHANGED_WRITES_TABLE, LISTED_READS_PAST, LISTED_READS_BEFORE,
+    LISTED_WRITES,
     SIGN_LEFT_OUT, SIGN_IN_ALL, NUMBER_ABOVE, NUMBER_PLACE, LOWEST_JUDGED, RANGE_FIRST, STORED_LOW_HALF, STORED_SIGN_IN_ALL,
     TEXT_ENDED, TEXT_BLANKS, TEXT_LENGTH_MORE, TEXT_ROOM_BYTE, TEXT_ROOM_FIRST, TEXT_ROOM_MORE, TEXT_ZEROS_REFUSED, TEXT_PAST,
     TEXT_BEFORE, LAST_WRONG
 };
 
-/* Then only sizes, only cycles or only operands can differ, and only these are tried. */
+/* Then only sizes, only cycles, only withdrawals or only operands can differ, and only these are tried. */
 static int is_wrong_size(void) { return (wrong > LIST_END && wrong < SIZE_END) || (wrong >= SIZE_SWAPPED && wrong < CYCLES_OF_FIRST); }
-static int is_wrong_cycles(void) { return (wrong > SIZE_END && wrong < CYCLES_END) || (wrong >= CYCLES_OF_FIRST && wrong < SIGN_LEFT_OUT); }
-static int is_wrong_operand(void) { return (wrong > CYCLES_END && wrong < NUMBER_END) || wrong >= SIGN_LEFT_OUT; }
+static int is_wrong_cycles(void) { return (wrong > SIZE_END && wrong < CYCLES_END) || (wrong >= CYCLES_OF_FIRST && wrong < CHANGED_OTHERS); }
+static int is_wrong_change(void) { return (wrong > CYCLES_END && wrong < CHANGED_END) || (wrong >= CHANGED_OTHERS && wrong < SIGN_LEFT_OUT); }
+static int is_wrong_operand(void) { return (wrong > CHANGED_END && wrong < NUMBER_END) || wrong >= SIGN_LEFT_OUT; }
 
 #ifdef STAND_IN
 uint64_t kilnumber_walk(const uint8_t *tree, size_t length, uint32_t word) {
@@ -170,6 +178,53 @@ uint64_t kilnumber_cycles(const uint32_t *table, size_t table_words, uint32_t en
     return result;
 }
 
+/* How many words an entry claims. */
+static uint64_t claimed_of(const struct table *table, uint32_t entry, const uint32_t *words, size_t count) {
+    uint64_t claimed = 0;
+    for (size_t at = 0; at < count; at++) {
+        struct cell cell = {0xffffffff, words[at]};
+        claimed += entry_status(table, cell, entry_at(table, entry)) == SURE;
+    }
+    return claimed;
+}
+
+static uint64_t sizing_number(const uint32_t *table, size_t count) { return reference_size(table, count, NONE).result >> 32; }
+
+/* What the reference says of the entry and the part of the list that a wrong one takes. */
+static uint64_t changed_of(struct table *table, uint32_t entry, const uint32_t *words, size_t count) {
+    uint32_t entries = table->count == 0 ? 0 : table->words[0] >> 16 & 0xfff;
+    if (wrong == CHANGED_ENTRY_BYTE) entry &= 0xff;
+    if (wrong == CHANGED_AT_COUNT && entry == entries && entries > 0) entry--;
+    if (wrong == CHANGED_FIRST_OUT && count > 0) words++, count--;
+    if (wrong == CHANGED_LAST_OUT && count > 0) count--;
+    uint64_t result = reference_changed(table, entry, words, count);
+    if (result >> 32 != 0) return result;
+    if (wrong == CHANGED_OTHERS) return count - result;
+    return wrong == CHANGED_CLAIMED ? claimed_of(table, entry, words, count) : result;
+}
+
+uint64_t kilnumber_changed(const uint32_t *table, size_t table_words, uint32_t entry, const uint32_t *words, size_t count) {
+    if (wrong == CHANGED_EMPTY && count == 0) return 0;
+    if (wrong == CHANGED_READS_PAST && ((const volatile uint32_t *)table)[table_words] == 0) return 0;
+    if (wrong == CHANGED_READS_BEFORE && ((const volatile uint32_t *)table)[-1] == 0) return 0;
+    if (wrong == CHANGED_WRITES_TABLE && table_words > 0) ((volatile uint32_t *)(uintptr_t)table)[table_words - 1] ^= 1;
+    if (wrong == LISTED_READS_PAST && ((const volatile uint32_t *)words)[count] == 0) return 0;
+    if (wrong == LISTED_READS_BEFORE && ((const volatile uint32_t *)words)[-1] == 0) return 0;
+    if (wrong == LISTED_WRITES && count > 0) ((volatile uint32_t *)(uintptr_t)words)[count - 1] ^= 1;
+    struct table read = table_of(table, table_words, (enum check)wrong);
+    uint64_t result = changed_of(&read, entry, words, count), number = result >> 32;
+    if (wrong == CHANGED_REACH && number == 0 && sizing_number(table, table_words) == 19) return refused_list(19, 0);
+    if (wrong == CHANGED_UNLISTED && number == 0 && sizing_number(table, table_words) == 6) return refused_list(6, 0);
+    if (wrong == CHANGED_LOW_BYTE && number == 0) result &= 0xff;
+    if (wrong == CHANGED_ABOVE && number == 0) result <<= 40;
+    if (wrong == CHANGED_NUMBER_ABOVE) result = number << 40 | (result & 0xffffffff);
+    if (wrong == CHANGED_NO_PLACE && number >= 1 && number <= 4) result = number << 32;
+    if (wrong == CHANGED_NO_WORD && number == 6) result = number << 32;
+    if (wrong == CHANGED_WORD_OF_7 && number == 7) result |= words[0];
+    if (wrong == CHANGED_PLACE_OF_11 && number == 11) result |= entry;
+    return result;
+}
+
 /* The word's own fault, where a wrong one finds another than the reference. */
 static struct operand wrong_operand(uint32_t field, uint32_t value) {
     struct operand operand = operand_of(field, (enum check)wrong);
@@ -228,9 +283,10 @@ struct input {
 
 static struct input kept[MOST_KEPT];
 static size_t kept_count;
-static uint64_t walks, listings, sizes, asked, by_number[10], by_list_number[18], by_check_number[18], by_size_number[20],
-    by_cycles_number[12], operands, by_operand_number[19], by_check[NUMBER_END + 1], listed_of_6, sized_of_6, listed_with_form,
-    sized_with_form, listed_unreached; /* the last five: without refusal, of kind 6, with a form, with an entry that no word selects */
+static uint64_t walks, listings, sizes, asked, withdrawn, by_number[10], by_list_number[18], by_check_number[18], by_size_number[20],
+    by_cycles_number[12], by_changed_number[12], with_changes, operands, by_operand_number[19], by_check[NUMBER_END + 1], listed_of_6,
+    sized_of_6, listed_with_form, sized_with_form, listed_unreached; /* the last five: without refusal, of kind 6, with a form, with an
+                                                                        entry that no word selects */
 
 static void keep(const uint8_t *bytes, size_t length) {
     if (kept_count == MOST_KEPT) return;
@@ -242,7 +298,7 @@ static void keep(const uint8_t *bytes, size_t length) {
 
 /* Whether the reference came to this for the first time. */
 static int is_new(uint32_t check, uint32_t one, uint32_t other) {
-    static uint8_t seen[CYCLES_END + 1][128][64];
+    static uint8_t seen[CHANGED_END + 1][128][64];
     uint8_t *place = &seen[check][one < 127 ? one : 127][other < 63 ? other : 63];
     int new = *place == 0;
     *place = 1;
@@ -653,7 +709,7 @@ static uint32_t digits_of(uint32_t number) {
     return digits;
 }
 
-static struct area words_area; /* of a table that is sized or asked for cycles */
+static struct area words_area; /* of a table that is sized, asked for cycles or loses an entry */
 
 static void compare_size(const uint32_t *words, size_t count) {
     const uint32_t *lent = (const uint32_t *)(const void *)lend(words_area, words, 4 * count, below(4) == 0);
@@ -723,6 +779,65 @@ static void fuzz_cycles(uint64_t count) {
     while (asked < count) compare_cycles(words, some_table(words));
 }
 
+/* ------------------------------------------------------------------------- withdrawals */
+
+/* A word that entries have an opinion on, this one often. */
+static uint32_t some_listed(const struct table *table, uint32_t *words, uint32_t entry) {
+    uint32_t word = any() & span(0, table->width);
+    for (uint32_t turn = table->entries == 0 ? 0 : below(4); turn > 0; turn--) {
+        uint32_t chosen = entry < table->entries && below(2) == 0 ? entry : below(table->entries);
+        const uint32_t *pattern = some_pattern(table, words + table->places[chosen]);
+        word = (word & ~pattern[0]) | pattern[1];
+    }
+    return word;
+}
+
+/* Mostly few words, some of them twice, now and then not of the width. How many. */
+static size_t some_list(struct table table, uint32_t *words, uint32_t entry, uint32_t *listed) {
+    int good = read_table(&table), many = table.entries < 16 && below(64) == 0;
+    size_t count = many ? below(MOST_LISTED) : below(9);
+    for (size_t at = 0; at < count; at++) {
+        int again = at > 0 && below(many ? 2 : 8) == 0;
+        listed[at] = again ? listed[below((uint32_t)at)] : good ? some_listed(&table, words, entry) : any();
+    }
+    for (uint32_t turn = count > 0 && table.width < 32 && below(6) == 0 ? 1 + below(2) : 0; turn > 0; turn--)
+        listed[below((uint32_t)count)] |= 1u << (table.width + below(32 - table.width));
+    return count;
+}
+
+static void compare_changed(uint32_t *words, size_t count, struct area area) {
+    static uint32_t listed[MOST_LISTED];
+    const uint32_t *lent = (const uint32_t *)(const void *)lend(words_area, words, 4 * count, below(4) == 0);
+    int new = 0;
+    for (uint32_t turn = 0; turn < LISTS_A_TABLE; turn++) {
+        struct table table = table_of(words, count, NONE);
+        uint32_t entry = some_entry(count == 0 ? 0 : words[0] >> 16 & 0xfff);
+        size_t length = some_list(table, words, entry, listed);
+        const uint32_t *lent_list = (const uint32_t *)(const void *)lend(area, listed, 4 * length, below(4) == 0);
+        uint64_t expected = reference_changed(&table, entry, listed, length);
+        uint64_t seen = kilnumber_changed(lent, count, entry, lent_list, length);
+        if (seen != expected) {
+            printf("fuzz: a withdrawal (%zu table words, entry %u, %zu words): expected %016llx, seen %016llx\n", count, (unsigned)entry,
+                   length, (unsigned long long)expected, (unsigned long long)seen);
+            exit(1);
+        }
+        require_same(lent_list, listed, 4 * length);
+        by_changed_number[expected >> 32]++;
+        with_changes += expected > 0 && expected >> 32 == 0;
+        for (int check = CYCLES_END + 1; check < CHANGED_END; check++) by_check[check] += table.came >> (check - WALK_END) & 1;
+        if (expected >> 32 == 0) new |= is_new(CHANGED_END, table.entries, (uint32_t)expected);
+    }
+    require_same(lent, words, 4 * count);
+    withdrawn++;
+    if (new && count <= MOST_ALTERED_WORDS) keep_table(words, count);
+}
+
+static void fuzz_changed(uint64_t count) {
+    static uint32_t words[MOST_SIZE_WORDS];
+    struct area area = make_area(4 * MOST_LISTED);
+    while (withdrawn < count) compare_changed(words, some_table(words), area);
+}
+
 /* ------------------------------------------------------------------------- operands */
 
 /* A field's word that has no fault or nearly none, or any word. */
@@ -769,7 +884,7 @@ static void operand_difference(const char *what, uint32_t field, int64_t given, 
 
 static void count_operand(struct operand operand) {
     by_operand_number[operand.number]++;
-    for (int check = CYCLES_END + 1; check < NUMBER_END; check++) by_check[check] += operand.came >> (check - CYCLES_END) & 1;
+    for (int check = CHANGED_END + 1; check < NUMBER_END; check++) by_check[check] += operand.came >> (check - CHANGED_END) & 1;
 }
 
 static void compare_text(uint32_t field, uint32_t value, struct area area) {
@@ -877,10 +992,11 @@ static double seconds(void) {
 static void require_each(uint64_t least) {
     static const char *const names[] = {"finished",
 #define NAME(check) #check,
-        WALK_CHECKS(NAME) "", LIST_CHECKS(NAME) "ends early", SIZE_CHECKS(NAME) "", CYCLES_CHECKS(NAME) "", NUMBER_CHECKS(NAME) ""};
+        WALK_CHECKS(NAME) "", LIST_CHECKS(NAME) "ends early", SIZE_CHECKS(NAME) "", CYCLES_CHECKS(NAME) "", CHANGED_CHECKS(NAME) "",
+        NUMBER_CHECKS(NAME) ""};
 #undef NAME
     for (int check = NONE; check < NUMBER_END; check++)
-        if (check != WALK_END && check != SIZE_END && check != CYCLES_END && by_check[check] < least) {
+        if (check != WALK_END && check != SIZE_END && check != CYCLES_END && check != CHANGED_END && by_check[check] < least) {
             printf("fuzz: only %llu inputs came to %s\n", (unsigned long long)by_check[check], names[check]);
             exit(1);
         }
@@ -890,6 +1006,10 @@ static void require_each(uint64_t least) {
         if (by_size_number[number] < least) stop("too few sizes of a number");
     for (int number = 0; number <= 11; number = number == 4 ? 11 : number + 1)
         if (by_cycles_number[number] < least) stop("too few cycles of a number");
+    static const int changed_numbers[] = {0, 1, 2, 3, 4, 6, 7, 11};
+    for (int at = 0; at < 8; at++)
+        if (by_changed_number[changed_numbers[at]] < 10 * least) stop("too few withdrawals of a number");
+    if (with_changes < 100 * least) stop("too few withdrawals with changes");
     static const int operand_numbers[] = {0, 2, 4, 12, 18};
     for (int at = 0; at < 5; at++)
         if (by_operand_number[operand_numbers[at]] < 100 * least) stop("too few operands of a number");
@@ -899,17 +1019,17 @@ static void require_each(uint64_t least) {
 }
 
 int main(int arguments, char **argument) {
-    if (arguments < 9) stop("usage: fuzz trees lists sizes walks listings tables asked operands");
-    wrong = arguments > 9 ? (unsigned)atoi(argument[9]) : 0;
+    if (arguments < 10) stop("usage: fuzz trees lists sizes walks listings tables asked withdrawn operands");
+    wrong = arguments > 10 ? (unsigned)atoi(argument[10]) : 0;
     if (wrong >= LAST_WRONG) return 3;                                                  /* the end of the row */
-    if (wrong == WALK_END || wrong == LIST_END || wrong == SIZE_END || wrong == CYCLES_END || wrong == NUMBER_END)
+    if (wrong == WALK_END || wrong == LIST_END || wrong == SIZE_END || wrong == CYCLES_END || wrong == CHANGED_END || wrong == NUMBER_END)
         return 4;                                                                       /* no way to be wrong */
     read_trees(argument[1]);
     read_lists(argument[2]);
     read_sizes(argument[3]);
     words_area = make_area(4 * MOST_SIZE_WORDS);
     size_t given = kept_count, given_lists = list_count, given_tables = table_count;
-    int others = !is_wrong_size() && !is_wrong_cycles() && !is_wrong_operand();
+    int others = !is_wrong_size() && !is_wrong_cycles() && !is_wrong_change() && !is_wrong_operand();
     double start = seconds();
     if (others) fuzz_walks(strtoull(argument[4], NULL, 10));
     double walked = seconds();
@@ -919,9 +1039,11 @@ int main(int arguments, char **argument) {
     double sized = seconds();
     if (wrong == 0 || is_wrong_cycles()) fuzz_cycles(strtoull(argument[7], NULL, 10));
     double answered = seconds();
-    if (wrong == 0 || is_wrong_operand()) fuzz_operands(strtoull(argument[8], NULL, 10));
+    if (wrong == 0 || is_wrong_change()) fuzz_changed(strtoull(argument[8], NULL, 10));
+    double changed = seconds();
+    if (wrong == 0 || is_wrong_operand()) fuzz_operands(strtoull(argument[9], NULL, 10));
     double ended = seconds();
-    if (arguments < 10) require_each(10);
+    if (arguments < 11) require_each(10);
     printf("fuzz: walks finished: %llu, number 7: %llu, 8: %llu, 9: %llu; listings whole: %llu (of kind 6: %llu, with a form: %llu, "
            "with an entry not reached: %llu), number 1 to 4: %llu, 14: %llu, 15: %llu, 16: %llu, 17: %llu\n",
            (unsigned long long)by_number[0], (unsigned long long)by_number[7], (unsigned long long)by_number[8],
@@ -938,14 +1060,19 @@ int main(int arguments, char **argument) {
            (unsigned long long)by_cycles_number[0],
            (unsigned long long)(by_cycles_number[1] + by_cycles_number[2] + by_cycles_number[3] + by_cycles_number[4]),
            (unsigned long long)by_cycles_number[11]);
+    printf("fuzz: withdrawals: %llu (with changes: %llu), number 1 to 4: %llu, 6: %llu, 7: %llu, 11: %llu\n",
+           (unsigned long long)by_changed_number[0], (unsigned long long)with_changes,
+           (unsigned long long)(by_changed_number[1] + by_changed_number[2] + by_changed_number[3] + by_changed_number[4]),
+           (unsigned long long)by_changed_number[6], (unsigned long long)by_changed_number[7], (unsigned long long)by_changed_number[11]);
     printf("fuzz: operands: %llu, number 2: %llu, 4: %llu, 12: %llu, 18: %llu\n", (unsigned long long)by_operand_number[0],
            (unsigned long long)by_operand_number[2], (unsigned long long)by_operand_number[4], (unsigned long long)by_operand_number[12],
            (unsigned long long)by_operand_number[18]);
     printf("fuzz good: %llu walks and masks in %.1f s, %llu listings and as many checks in %.1f s, %llu tables sized in %.1f s, "
-           "%llu asked for cycles in %.1f s, %llu operands in %.1f s; differences 0, faults 0; kept %zu trees over %zu given, "
-           "%zu listings over %zu, %zu tables over %zu\n",
+           "%llu asked for cycles in %.1f s, %llu with an entry withdrawn in %.1f s, %llu operands in %.1f s; differences 0, faults 0; "
+           "kept %zu trees over %zu given, %zu listings over %zu, %zu tables over %zu\n",
            (unsigned long long)walks, walked - start, (unsigned long long)listings, listed - walked, (unsigned long long)sizes, sized - listed,
-           (unsigned long long)asked, answered - sized, (unsigned long long)operands, ended - answered,
+           (unsigned long long)asked, answered - sized, (unsigned long long)withdrawn, changed - answered, (unsigned long long)operands,
+           ended - changed,
            kept_count - given, given, list_count - given_lists, given_lists, table_count - given_tables, given_tables);
     return 0;
 }

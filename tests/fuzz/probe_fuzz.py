@@ -21,7 +21,8 @@ SEED = 15
 MOST_PARTS = 8
 MISTAKES = ("trailing bytes are dropped", "the stop is counted in requests", "bytes are not padded", "a length is cut to 30 bits",
             "the low byte of the number is enough", "a request may end a word early", "no limit of bytes", "no limit of parts",
-            "a part must be whole words", "a part that is not taken is not there", "a part that is not there stops")
+            "a part must be whole words", "a part that is not taken is not there", "a part that is not there stops",
+            "the numbers between are known")
 
 
 # ---------------------------------------------------------------------------- the form of requests
@@ -61,9 +62,11 @@ class Words:
         (count,) = self.take(1) or [0]
         if self.mistake == "the low byte of the number is enough":
             number &= 0xFF
-        if not 1 <= number <= len(probe.NAMES) or count > MOST_PARTS and self.mistake != "no limit of parts":
+        if self.mistake == "the numbers between are known" and number not in probe.NAMES and 1 <= number <= max(probe.NAMES):
+            number = max(probe.NAMES)
+        if number not in probe.NAMES or count > MOST_PARTS and self.mistake != "no limit of parts":
             raise NotWhole
-        taken = len(probe.FORMS[probe.NAMES[number - 1]])
+        taken = len(probe.FORMS[probe.NAMES[number]])
         if self.mistake == "a part that is not taken is not there":
             count = min(count, taken)
         if self.mistake == "a part that is not there stops" and count < taken:
@@ -102,14 +105,14 @@ def random_bytes(rng):
 
 def small_words(rng):
     """Words that are likely to be numbers of requests and small counts."""
-    words = [rng.choice([rng.randrange(19), rng.randrange(6), 0, 1, rng.getrandbits(32)]) for _ in range(rng.randrange(40))]
+    words = [rng.choice([rng.randrange(25), rng.randrange(6), 0, 1, rng.getrandbits(32)]) for _ in range(rng.randrange(40))]
     return probe.pack(words) + rng.randbytes(rng.choice([0, 0, 0, 1, 3]))
 
 
 def some_request(rng):
     """A request's words; now and then with a part more or less, or one that ends within a word."""
     question = some_question(rng)
-    number, parts = probe.NAMES.index(question[0]) + 1, probe.parts_of(question)
+    number, parts = probe.NUMBERS[question[0]], probe.parts_of(question)
     how = rng.randrange(8)
     if how == 0:
         parts += [rng.randbytes(rng.randrange(6)) for _ in range(rng.randrange(9))]
@@ -144,21 +147,32 @@ def some_operand(rng):
     return rng.choice([("signed", field, value), ("stored", field, number), ("text", field, value, rng.randbytes(rng.randrange(40)))])
 
 
+def some_withdrawal(rng):
+    """An entry, mostly one that is there, and words, some of them unfit."""
+    table = examples.ZERO_HIGH_ZERO_LOW if rng.random() < 0.2 else some_table(rng)
+    listed = [rng.getrandbits(table[0] & 0xFF) for _ in range(rng.choice([0, 1, 4, 16, 16]))]
+    if listed and rng.random() < 0.2:
+        listed[rng.randrange(len(listed))] |= 1 << rng.randrange(32)
+    return "changed", table, rng.choice([0, 0, 0, 0, 1, 1, 1, 7, rng.getrandbits(32)]), listed
+
+
 def some_question(rng):
     if rng.random() < 0.2:
         return some_operand(rng)
-    if rng.random() < 0.6:
+    if rng.random() < 0.25:
+        return some_withdrawal(rng)
+    if rng.random() < 0.45:
         return rng.choice(QUESTIONS)
     table = some_table(rng)
     asked = "cycles", table, rng.choice([0, 0, 0, 1, 7, rng.getrandbits(32)])
-    made = rng.choice([("generate", table, [7] * rng.randrange(40)), ("measure", table)])
-    return rng.choice([("lookup", table, rng.getrandbits(8)), ("read", table), made, made, made, asked, asked, asked])
+    generated, measured = ("generate", table, [7] * rng.randrange(40)), ("measure", table)
+    return rng.choice([("lookup", table, rng.getrandbits(8)), ("read", table), *[generated] * 4, *[measured] * 2, *[asked] * 2])
 
 
 def some_word(rng):
     """Numbers and counts near a limit, or that a part of a word would take for another."""
-    return rng.choice([0, 1, 5, 13, 14, 16, 17, 0x101, 0x10002, 0x3FFFFFFF, 0x40000001, 0x40000005, 0x7FFFFFFF, 0x80000000, 0xFFFFFFFC,
-                       0xFFFFFFFF, rng.getrandbits(32), rng.randrange(20)])
+    return rng.choice([0, 1, 5, 13, 14, 16, 17, 21, 22, 23, 0x101, 0x10002, 0x3FFFFFFF, 0x40000001, 0x40000005, 0x7FFFFFFF, 0x80000000,
+                       0xFFFFFFFC, 0xFFFFFFFF, rng.getrandbits(32), rng.randrange(25)])
 
 
 def altered(rng, data):
@@ -226,6 +240,10 @@ def main():
         tally["lines"] += len(seen)
         tally["cycles"] += sum(line.startswith("13 0 ") for line in expected)
         tally["operands"] += sum(line.startswith(("14 0 ", "15 0 ", "16 0 ")) for line in expected)
+        tally["withdrawals"] += sum(line.startswith("22 0 ") for line in expected)
+        tally["changes"] += sum(line.startswith("22 0 ") and not line.endswith(" 0") for line in expected)
+        for number in (6, 7, 11):
+            tally[f"withdrawals, number {number}"] += sum(line.startswith(f"22 {number} ") for line in expected)
         tally["unreached, generated"] += sum(line.startswith("3 19 ") for line in expected)
         tally["unreached, sized"] += sum(line.startswith("12 19 ") for line in expected)
         tally["stopped" if expected and expected[-1].startswith("stopped") else "ended"] += 1
@@ -235,10 +253,12 @@ def main():
     if len(noticed) < len(MISTAKES):
         sys.exit(f"no stream shows: {sorted(set(MISTAKES) - noticed)}")
     probe.require_enough(tally, {"stopped": count // 4, "ended": count // 10, "lines": count, "cycles": count // 40, "operands": count // 40,
-                                 "unreached, generated": count // 80, "unreached, sized": count // 80})
+                                 "unreached, generated": count // 80, "unreached, sized": count // 80, "changes": count // 80,
+                                 **{f"withdrawals, number {number}": count // 100 for number in (6, 7, 11)}})
     print(f"probe_fuzz good: {tally['streams']} streams, {tally['lines']} lines, {tally['cycles']} of cycles, {tally['operands']} of operands, "
-          f"{tally['unreached, generated']} and {tally['unreached, sized']} of number 19; stopped: {tally['stopped']}, whole: {tally['ended']}; "
-          f"faults 0; {len(noticed)} of {len(MISTAKES)} mistakes noticed")
+          f"{tally['withdrawals']} of withdrawals, {tally['changes']} of them with changes, {tally['unreached, generated']} and "
+          f"{tally['unreached, sized']} of number 19; stopped: {tally['stopped']}, whole: {tally['ended']}; faults 0; "
+          f"{len(noticed)} of {len(MISTAKES)} mistakes noticed")
 
 
 if __name__ == "__main__":

@@ -1,10 +1,10 @@
 /*
- * The walk, the check and the listing of document 01, and the mask, the size, the cycles and the operands of document 02, written from
- * these papers alone, for fuzz.c. Sentences in quotes are the papers'.
+ * The walk, the check and the listing of document 01, and the mask, the size, the cycles, the withdrawal and the operands of document 02,
+ * written from these papers alone, for fuzz.c. Sentences in quotes are the papers'.
  *
  * Each check has a name, and a check is left out where its name is `without`: so the same text is the reference (NONE) and a row of
- * wrong ones, and the checks that a walk came by say how far an input got. For a size, for cycles and for operands the names are parts
- * of the rule.
+ * wrong ones, and the checks that a walk came by say how far an input got. For a size, for cycles, for a withdrawal and for operands the
+ * names are parts of the rule.
  */
 
 #ifndef REFERENCE_H
@@ -27,6 +27,9 @@
     X(UNMATCHING_TOO) X(CYCLES_ASIDE) X(UNREACHED) X(CONFLICT_FIRST) X(LOWEST_UNREACHED)
 #define CYCLES_CHECKS(X)                                                                                                     \
     X(CYCLES_HIGH) X(AFTER_VALUE) X(BEFORE_FIELDS) X(KIND_ONE_ZERO) X(NO_SUCH_ENTRY) X(FAULTS_FIRST)
+#define CHANGED_CHECKS(X)                                                                                                    \
+    X(WITHDRAWN_THERE) X(AFTER_FAULTS) X(BEFORE_WORDS) X(LISTED_HIGH) X(LISTED_AMBIGUOUS) X(BEFORE_WITHDRAWAL) X(FIRST_UNFIT)   \
+    X(OLD_NUMBERS) X(TO_NOTHING) X(TO_OTHER) X(TO_AMBIGUOUS) X(EACH_TIME)
 #define NUMBER_CHECKS(X)                                                                                                     \
     X(WORD_KIND) X(WORD_SPARE) X(WORD_WIDTH_LEAST) X(WORD_WIDTH_MOST) X(WORD_FORM) X(WORD_FRACTION) X(WORD_FRACTION_OVER)      \
     X(VALUE_HIGH) X(NUMBER_LEAST) X(NUMBER_MOST) X(SIGNED_SIGN) X(POINT_SIGN) X(MINUS) X(NO_LEADING) X(ONE_DIGIT) X(ALL_DIGITS) \
@@ -39,10 +42,11 @@ enum check {
     LIST_CHECKS(NAME) LIST_END,
     SIZE_CHECKS(NAME) SIZE_END,
     CYCLES_CHECKS(NAME) CYCLES_END,
+    CHANGED_CHECKS(NAME) CHANGED_END,
     NUMBER_CHECKS(NAME) NUMBER_END
 #undef NAME
 };
-_Static_assert(CYCLES_END - WALK_END < 64, "the checks have a bit each in a table's `came`");
+_Static_assert(CHANGED_END - WALK_END < 64, "the checks have a bit each in a table's `came`");
 
 #define MOST_STEPS 200000u /* only a wrong walk, which may go round in circles, comes to it */
 #define MOST_TABLE_WORDS 16384u
@@ -518,6 +522,70 @@ static uint64_t reference_cycles(struct table *table, uint32_t entry) {
     return has_cycles ? entry_at(table, entry)[3] : 0;
 }
 
+/* ------------------------------------------------------------------------- the withdrawal */
+
+/* "the one that lacks a single entry" */
+static struct table table_without(const struct table *table, uint32_t entry) {
+    struct table less = *table;
+    less.entries--;
+    memmove(less.places + entry, less.places + entry + 1, (less.entries - entry) * sizeof less.places[0]);
+    return less;
+}
+
+/* The entry that a word selects, NO_ENTRY for nothing, NEITHER if it is ambiguous. */
+static uint32_t selected_by(const struct table *table, uint32_t word) {
+    struct cell cell = {0xffffffff, word};
+    return first_step(table, cell);
+}
+
+/* The refusal of a word of the list: "7, or 6 if it was ambiguous before the withdrawal"; 0 if it is fit. */
+static uint64_t unfit(struct table *table, const struct table *less, uint32_t word) {
+    if (table->width < 32 && word >> table->width != 0 && keeps(table, LISTED_HIGH)) return refused_list(7, 0);
+    int before = selected_by(table, word) == NEITHER, after = selected_by(less, word) == NEITHER;
+    int is_unfit = before == after || keeps(table, BEFORE_WITHDRAWAL) ? before : after;
+    return is_unfit && keeps(table, LISTED_AMBIGUOUS) ? refused_list(6, word) : 0;
+}
+
+/* "for the first unfit word of the list" */
+static uint64_t unfit_in(struct table *table, const struct table *less, const uint32_t *words, size_t count) {
+    uint64_t found = 0;
+    for (size_t at = 0; at < count; at++) {
+        uint64_t its = unfit(table, less, words[at]);
+        if (its != 0 && (found == 0 || !keeps(table, FIRST_UNFIT))) found = its;
+    }
+    return found;
+}
+
+/* Whether a word changes its answer, "turning ambiguous included, renumbering not". */
+static int changes(struct table *table, const struct table *less, uint32_t entry, uint32_t word) {
+    uint32_t before = selected_by(table, word), after = selected_by(less, word);
+    if (after < NO_ENTRY && after >= entry && keeps(table, OLD_NUMBERS)) after++;
+    if (before == after) return 0;
+    return keeps(table, after == NEITHER ? TO_AMBIGUOUS : after == NO_ENTRY ? TO_NOTHING : TO_OTHER);
+}
+
+static int is_earlier(const uint32_t *words, size_t at) {
+    for (size_t earlier = 0; earlier < at; earlier++)
+        if (words[earlier] == words[at]) return 1;
+    return 0;
+}
+
+/* "After the table's faults it gives 11 for no such entry, then" what is unfit in the list. Both tables are asked, and not which entry a
+ * word selected. */
+static uint64_t reference_changed(struct table *table, uint32_t entry, const uint32_t *words, size_t count) {
+    int good = read_table(table), there = entry < table->entries;
+    if (!there && !good && !keeps(table, AFTER_FAULTS)) return refused_list(11, 0);
+    if (!good) return refused_list(table->number, table->place);
+    struct table less = there ? table_without(table, entry) : *table;
+    uint64_t refusal = unfit_in(table, &less, words, count), total = 0;
+    int is_later = !there && refusal != 0 && !keeps(table, BEFORE_WORDS);
+    if (!there && !is_later && keeps(table, WITHDRAWN_THERE)) return refused_list(11, 0);
+    if (refusal != 0) return refusal;
+    for (size_t at = 0; at < count; at++)
+        total += changes(table, &less, entry, words[at]) && (!is_earlier(words, at) || keeps(table, EACH_TIME));
+    return total;
+}
+
 /* ------------------------------------------------------------------------- operands */
 
 #define MOST_WRONG_BITS 40u /* what a wrong one takes of a width or of fraction bits, so that it stays inside its numbers */
@@ -528,11 +596,11 @@ struct operand {
     uint32_t number, form, fraction, width;
     int has_sign;
     enum check without;
-    uint64_t came; /* as a table's, from CYCLES_END on */
+    uint64_t came; /* as a table's, from CHANGED_END on */
 };
 
 static int number_keeps(struct operand *operand, enum check part) {
-    operand->came |= (uint64_t)1 << (part - CYCLES_END);
+    operand->came |= (uint64_t)1 << (part - CHANGED_END);
     return operand->without != part;
 }
 

@@ -1,5 +1,5 @@
 """Tables and questions written by hand, with the lines of docs/probe.md that document 01 asks for (masks, sizes and cycles: document
-02's No. 1 to No. 3; operands with a sign or a point: its No. 7; entries that no word selects: its No. 8).
+02's No. 1 to No. 3; operands with a sign or a point: its No. 7; entries that no word selects: its No. 8; withdrawals: its No. 13).
 
 Nothing here is computed by the second implementation: every number, place and mask was written out by reading the documents.
 """
@@ -1025,6 +1025,135 @@ REACH_EXAMPLES = [
     ("an entry excluded, six halfwords, 5 words", listing(IMAGE_EXCLUDED, SHORT_OR_LONG_TREE, SIX_HALVES, 5),
      "9 0 0 00000000 5 | c0000000 c0100001 d0000003 c0000004 e0000005"),
     ("an entry excluded, a step at 1", step(IMAGE_EXCLUDED, SHORT_OR_LONG_TREE, SIX_HALVES, 1), "8 0 0 00000000 c0100001 3 c0000000"),
+]
+
+
+# ---------------------------------------------------------------------------- withdrawals
+
+def changed(words, entry, listed):
+    return ("changed", words, entry, listed)
+
+
+def counts(what, words, listed, numbers):
+    """(what it shows, question, line) for each entry: how many words of the list change."""
+    return [(f"{what}, entry {entry} withdrawn", changed(words, entry, listed), f"22 0 0 00000000 {number}")
+            for entry, number in enumerate(numbers)]
+
+
+# Width 3: 1--, 11- and 111, each more specific than those before it.
+ONE_IN_ANOTHER = table("10030003 20000310 00000004 00000004 30000002 20010310 00000006 00000006 30000001 20020300 00000007 00000007")
+# Width 3: 111, 11- and 1--. Without an entry, the one behind it takes its number and its words.
+EACH_BEHIND = table("10030003 20000300 00000007 00000007 20010310 00000006 00000006 30000001 20020310 00000004 00000004 30000002")
+
+NO_SUCH_WITHDRAWN = "22 11 0 00000000"
+MARKED_WORDS = [word for word, *_ in MARKED]
+EIGHT_WORDS = list(range(8))
+
+# (what it shows, the question, the line)
+WITHDRAWAL_EXAMPLES = [
+    # A: 64 words, without 16 of a = 3, and 8 of a = 0 with c 1 or 2. B: 64 without 16. C and D: 16 each. E and F: 4 each. G: 32.
+    *counts("all words of the worked table", WORKED, list(range(256)), [40, 48, 16, 16, 4, 4, 32]),
+    *counts("with cycles, all words of the worked table", WORKED_CYCLES, list(range(256)), [40, 48, 16, 16, 4, 4, 32]),
+    *counts("the marked words", WORKED, MARKED_WORDS, [3, 1, 1, 1, 1, 1, 2]),
+    *counts("with cycles, the marked words", WORKED_CYCLES, MARKED_WORDS, [3, 1, 1, 1, 1, 1, 2]),
+
+    # The words turn to nothing.
+    *counts("the printed table", PRINTED, [0, 1, 2, 3], [2]),
+    *counts("77 cycles", CYCLES_77, [0, 1, 2, 3], [2]),
+    *counts("every kind once", EVERY_KIND, [3, 2, 1, 0], [1]),
+    *counts("short entries", SHORT, [0x80, 0x9F, 0xA0, 0x60, 0x00], [2, 1]),
+    *counts("eight unmatching patterns", EIGHT_UNMATCHING, list(range(16)), [8]),
+    # 256 words have bit 8; 64 of them have bit 0 and not bit 1.
+    *counts("eight of everything", LONGEST_ENTRY, list(range(512)), [192]),
+    *counts("width 32", SHORT_OR_LONG, [0, 0x7FFFFFFF, 0x80000000, 0xBFFFFFFF, 0xC0000000, 0xFFFFFFFF], [2, 2]),
+
+    # 0--, --0 and 0-0: without the first 1 and 3 are nothing, without the second 4 and 6; without the third 0 and 2 are ambiguous.
+    *counts("0-0 added, all words", WITH_THIRD, EIGHT_WORDS, [2, 2, 2]),
+    *counts("0-0 added, word 0", WITH_THIRD, [0], [0, 0, 1]),
+    *counts("0-0 added, words 2 and 0", WITH_THIRD, [2, 0], [0, 0, 2]),
+    *counts("0-0 added, word 1", WITH_THIRD, [1], [1, 0, 0]),
+    *counts("0-0 added, word 6", WITH_THIRD, [6], [0, 1, 0]),
+    *counts("0-0 added, word 7", WITH_THIRD, [7], [0, 0, 0]),
+
+    # To a less specific entry: before it in the table, and behind it.
+    *counts("a short entry and a longer one", SHORT_AND_LONG, list(range(256)), [64, 64]),
+    *counts("one in another, all words", ONE_IN_ANOTHER, EIGHT_WORDS, [2, 1, 1]),
+    *counts("one in another, word 7", ONE_IN_ANOTHER, [7], [0, 0, 1]),
+    *counts("each behind, all words", EACH_BEHIND, EIGHT_WORDS, [1, 1, 2]),
+    *counts("each behind, word 7", EACH_BEHIND, [7], [1, 0, 0]),
+    *counts("each behind, word 6", EACH_BEHIND, [6], [0, 1, 0]),
+    *counts("each behind, word 4", EACH_BEHIND, [4], [0, 0, 1]),
+    *counts("not covered, word 0", NOT_COVERED, [0], [1, 0]),
+    *counts("not covered, word 1", NOT_COVERED, [1], [0, 1]),
+
+    # A word counts as often as it is there; the first and the last count too.
+    *counts("word 3 three times", PRINTED, [3, 0, 3, 0, 3], [3]),
+    *counts("word 3 at the start", PRINTED, [3, 0, 1], [1]),
+    *counts("word 3 at the end", PRINTED, [0, 1, 3], [1]),
+    *counts("256 times", PRINTED, [2, 3] * 128, [256]),
+    *counts("no words", PRINTED, [], [0]),
+    *counts("no words, worked table", WORKED, [], [0] * 7),
+
+    # Entries that no word selects are withdrawn too, and 19 is not judged.
+    *counts("covered by one", COVERED_BY_ONE, [0, 1], [0, 1]),
+    *counts("covered by two", COVERED_BY_TWO, [0, 1], [0, 1, 1]),
+    *counts("covered, with cycles", COVERED_CYCLES, [0, 1], [0, 1, 1]),
+    *counts("the middle covered", MIDDLE_COVERED, [0, 1], [1, 0, 1]),
+    *counts("the last covered", LAST_COVERED, [0, 1], [1, 1, 0]),
+    *counts("its own condition", OWN_CONDITION, [0, 1], [0]),
+    *counts("two that no word selects", TWO_UNREACHED, [0, 1], [1, 0, 1, 0]),
+    *counts("eight conditions", EIGHT_CONDITIONS, list(range(16)), [0]),
+    *counts("256 entries, all words", LAST_OF_256, list(range(256)), [1] * 255 + [0])[::85],
+
+    # 11, whatever the list is.
+    *((f"the printed table, entry {entry:#x} withdrawn, {what}", changed(PRINTED, entry, listed), NO_SUCH_WITHDRAWN)
+      for entry in (1, 2, 255, 256, 0x10000, 0x80000000, 0xFFFFFFFF)
+      for what, listed in (("no words", []), ("a word", [3]), ("a high word", [4]))),
+    ("an ambiguous word, no such entry withdrawn", changed(ZERO_HIGH_ZERO_LOW, 2, [2]), NO_SUCH_WITHDRAWN),
+    ("worked table, entry 7 withdrawn", changed(WORKED, 7, MARKED_WORDS), NO_SUCH_WITHDRAWN),
+    ("no entries, kind 1, withdrawn", changed([0x10000001], 0, []), NO_SUCH_WITHDRAWN),
+    ("no entries, kind 6, withdrawn", changed([0x60000001], 0, [2]), NO_SUCH_WITHDRAWN),
+    ("256 entries, entry 256 withdrawn", changed(LAST_OF_256, 256, [0]), NO_SUCH_WITHDRAWN),
+    ("16,384 words, entry 85 withdrawn", changed(LONGEST, 85, []), NO_SUCH_WITHDRAWN),
+
+    # 0-- and --0: 0 and 2 are ambiguous, 8 and 10 too high. The first unfit word decides; it is ambiguous before the withdrawal.
+    ("ambiguous, entry 0 withdrawn", changed(ZERO_HIGH_ZERO_LOW, 0, [2]), "22 6 0 00000002"),
+    ("ambiguous, entry 1 withdrawn", changed(ZERO_HIGH_ZERO_LOW, 1, [1, 4, 2, 0]), "22 6 0 00000002"),
+    ("ambiguous word 0 first", changed(ZERO_HIGH_ZERO_LOW, 1, [0, 2]), "22 6 0 00000000"),
+    ("ambiguous at the start", changed(ZERO_HIGH_ZERO_LOW, 0, [2, 1, 3]), "22 6 0 00000002"),
+    ("ambiguous at the end", changed(ZERO_HIGH_ZERO_LOW, 0, [1, 3, 4, 5, 6, 7, 2]), "22 6 0 00000002"),
+    ("a high word at the start", changed(ZERO_HIGH_ZERO_LOW, 0, [8, 1, 3]), "22 7 0 00000000"),
+    ("a high word at the end", changed(ZERO_HIGH_ZERO_LOW, 0, [1, 3, 4, 5, 6, 7, 8]), "22 7 0 00000000"),
+    ("a high word before an ambiguous one", changed(ZERO_HIGH_ZERO_LOW, 0, [1, 8, 2]), "22 7 0 00000000"),
+    ("an ambiguous word before a high one", changed(ZERO_HIGH_ZERO_LOW, 0, [1, 2, 8]), "22 6 0 00000002"),
+    ("high, ambiguous, high", changed(ZERO_HIGH_ZERO_LOW, 1, [10, 2, 8]), "22 7 0 00000000"),
+    ("ambiguous, high, ambiguous", changed(ZERO_HIGH_ZERO_LOW, 1, [2, 10, 0]), "22 6 0 00000002"),
+    ("the highest word", changed(PRINTED, 0, [3, 0xFFFFFFFF]), "22 7 0 00000000"),
+    ("the first word over the width, with cycles", changed(CYCLES_77, 0, [4]), "22 7 0 00000000"),
+    ("twins with cycles, one withdrawn", changed(TWINS_CYCLES, 1, [0, 3]), "22 6 0 00000003"),
+
+    # Ambiguous words that are not in the list.
+    *counts("0-- and --0, the words that are not ambiguous", ZERO_HIGH_ZERO_LOW, [1, 3, 4, 5, 6, 7], [2, 2]),
+    *counts("twins with cycles, the other words", TWINS_CYCLES, [0, 1], [0, 0]),
+    *counts("6 and 19 elsewhere", TWINS_AND_EXCLUDED, [0, 0], [0, 0, 0]),
+    ("6 and 19", changed(TWINS_AND_EXCLUDED, 0, [0, 1]), "22 6 0 00000001"),
+    ("16,384 words, the last withdrawn", changed(LONGEST, 84, [1, 0x101]), "22 0 0 00000000 0"),
+    ("16,384 words, an ambiguous one", changed(LONGEST, 84, [1, 0x101, 0x100]), "22 6 0 00000100"),
+    ("16,384 words with cycles", changed(LONGEST_CYCLES, 118, [2, 0x101]), "22 0 0 00000000 0"),
+
+    # 1 to 4 before 11, and before the words.
+    ("withdrawn from the empty table", changed([], 0, []), "22 1 0 00000000"),
+    ("withdrawn from 16,385 words", changed(ONE_TOO_LONG, 0, [1]), "22 1 0 00000000"),
+    ("withdrawn from kind 7", changed(table("70000001"), 0, [4]), "22 1 0 00000000"),
+    ("withdrawn from a bad table", changed(BAD, 0, [3]), "22 2 5 00000000"),
+    ("withdrawn from a bad table, a high word", changed(BAD, 0, [4]), "22 2 5 00000000"),
+    ("withdrawn from a bad table, no such entry", changed(BAD, 9, [4]), "22 2 5 00000000"),
+    ("withdrawn, 65,536 cycles", changed(MANY_CYCLES, 1, []), "22 2 4 00000000"),
+    ("withdrawn, opcode value outside the mask", changed(table("10010002 20050210 00000002 00000003 30000001"), 0, [3]), "22 3 2 00000000"),
+    ("withdrawn, not covered", changed(table("10010002 20050200 00000002 00000002"), 1, [3]), "22 4 1 00000000"),
+    # The fault is in the entry that is withdrawn, and the rest is good.
+    ("the faulty entry withdrawn", changed(table("10020001 20000100 00000001 00000000 20000100 00000001 00000002"), 1, [0]),
+     "22 3 5 00000000"),
 ]
 
 

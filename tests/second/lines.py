@@ -1,6 +1,6 @@
 """The line of docs/probe.md that the second implementation gives for a question."""
 
-from second import cost, measure, numbers, selection, tree, walk
+from second import cost, measure, numbers, selection, tree, walk, withdrawal
 from second.checker import check
 from second.image import END, list_items, step
 from second.reader import Refusal, read
@@ -129,16 +129,25 @@ def text_line(field, value, buffer):
     return "16 " + refusal_text(outcome) + result_text(outcome, str(outcome)) + " " + bytes_text(after)
 
 
+def count_line(outcome):
+    return "22 " + refusal_text(outcome) + result_text(outcome, str(outcome))
+
+
+def changed_line(words, entry, listed):
+    return count_line(withdrawal.changed(words, entry, listed))
+
+
 def line_of(question):
     """A question is ("read", table), ("lookup", table, word), ("generate", table, buffer), ("walk bytes", bytes, word),
     ("decode", table, word, buffer), ("encode", table, entry, values), ("check", table, tree), ("step", table, tree, image,
     address), ("list", table, tree, image, buffer), ("walk", tree, word), ("mask", bytes, word), ("measure", table),
-    ("cycles", table, entry), ("signed", field, value), ("stored", field, number) or ("text", field, value, buffer)."""
+    ("cycles", table, entry), ("signed", field, value), ("stored", field, number), ("text", field, value, buffer) or
+    ("changed", table, entry, words)."""
     name, *parts = question
     makers = {"read": read_line, "lookup": lookup_line, "generate": generate_line, "walk bytes": walk_bytes_line,
               "decode": decode_line, "encode": encode_line, "check": check_line, "step": step_line, "list": list_line,
               "walk": walk_line, "mask": mask_line, "measure": measure_line, "cycles": cycles_line,
-              "signed": signed_line, "stored": stored_line, "text": text_line}
+              "signed": signed_line, "stored": stored_line, "text": text_line, "changed": changed_line}
     return makers[name](*parts)
 
 

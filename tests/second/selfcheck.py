@@ -17,7 +17,7 @@ sys.path[:] = [str(HERE.parent), *(place for place in sys.path if Path(place).re
 from fractions import Fraction
 
 from second import checker, checktrees, cost, examples, image, images, measure, numbers, reach, reader, selection, tables, tree, trees, \
-    twins, walk, wrong_cycles, wrong_masks, wrong_numbers, wrong_reach, wrong_sizes
+    twins, walk, withdrawal, wrong_cycles, wrong_masks, wrong_numbers, wrong_reach, wrong_sizes, wrong_withdrawal
 from second.lines import line_of, mktree_text
 from second.reader import Refusal, Table, read
 
@@ -50,7 +50,8 @@ MOST_MASKS_LINE = "3 0 0 00000000 6 | 70030005 80000005 81000004 90000001 900000
 # The hand-written examples: (name, question, line)
 ASKED = [(name, ("read", words), line) for name, words, line in examples.READ_EXAMPLES] + examples.SELECTION_EXAMPLES \
     + examples.TREE_EXAMPLES + examples.CHECK_EXAMPLES + examples.IMAGE_EXAMPLES + examples.STEP_MASK_EXAMPLES \
-    + examples.SIZE_EXAMPLES + examples.CYCLES_EXAMPLES + examples.REACH_EXAMPLES + examples.NUMBERS_EXAMPLES \
+    + examples.SIZE_EXAMPLES + examples.CYCLES_EXAMPLES + examples.REACH_EXAMPLES + examples.WITHDRAWAL_EXAMPLES \
+    + examples.NUMBERS_EXAMPLES \
     + [("the bit of the most masks", ("generate", MOST_MASKS, [0] * 6), MOST_MASKS_LINE)]
 
 
@@ -258,7 +259,7 @@ HOMES = {reader: ("read_cycles", "form_at_fault", "spare_bit_set", "read_field")
          checker: ("widths_equal", "none_damaged", "one_sides_begin_right", "all_used", "no_bit_twice", "named_right",
                    "nothing_right", "first_step"),
          image: ("word_at", "halfwords", "item_at", "no_image_table", "no_image", "refusal_before_items", "mask_at"),
-         measure: ("measure",), cost: ("cycles",),
+         measure: ("measure",), cost: ("cycles",), withdrawal: ("changed",),
          numbers: ("judged", "has_sign", "number_of", "fits", "value_of", "text_of", "signed", "stored", "text")}
 RIGHT = {name: getattr(home, name) for home, names in HOMES.items() for name in names}
 MISTAKES = [("satisfied", one_missed_is_enough, "0x00 A"),
@@ -362,6 +363,38 @@ MISTAKES = [("satisfied", one_missed_is_enough, "0x00 A"),
             ("cycles", wrong_cycles.after_fields, "too many cycles and a field of width 0"),
             ("cycles", wrong_cycles.after_fields, "too many cycles and not covered"),
             ("cycles", wrong_cycles.before_opcode, "cycles, opcode value outside the mask"),
+            # compare_withdrawal.py has the count of sixteen bits
+            ("changed", wrong_withdrawal.others_counted, "0-0 added, word 1, entry 0 withdrawn"),
+            ("changed", wrong_withdrawal.renumbering_counted, "0-0 added, word 0, entry 0 withdrawn"),
+            ("changed", wrong_withdrawal.number_taken, "each behind, word 7, entry 0 withdrawn"),
+            ("changed", wrong_withdrawal.number_taken, "not covered, word 0, entry 0 withdrawn"),
+            ("changed", wrong_withdrawal.ambiguous_left_out, "0-0 added, word 0, entry 2 withdrawn"),
+            ("changed", wrong_withdrawal.nothing_left_out, "0-0 added, word 1, entry 0 withdrawn"),
+            ("changed", wrong_withdrawal.another_left_out, "one in another, word 7, entry 2 withdrawn"),
+            ("changed", wrong_withdrawal.one_at_most, "the printed table, entry 0 withdrawn"),
+            ("changed", wrong_withdrawal.low_byte, "256 times, entry 0 withdrawn"),
+            ("changed", wrong_withdrawal.duplicates_once, "word 3 three times, entry 0 withdrawn"),
+            ("changed", wrong_withdrawal.first_left_out, "word 3 at the start, entry 0 withdrawn"),
+            ("changed", wrong_withdrawal.first_left_out, "ambiguous at the start"),
+            ("changed", wrong_withdrawal.last_left_out, "word 3 at the end, entry 0 withdrawn"),
+            ("changed", wrong_withdrawal.last_left_out, "a high word at the end"),
+            ("changed", wrong_withdrawal.last_unfit, "ambiguous word 0 first"),
+            ("changed", wrong_withdrawal.high_first, "an ambiguous word before a high one"),
+            ("changed", wrong_withdrawal.ambiguous_first, "a high word before an ambiguous one"),
+            ("changed", wrong_withdrawal.let_through, "the printed table, entry 0x2 withdrawn, no words"),
+            ("changed", wrong_withdrawal.one_entry_more, "the printed table, entry 0x1 withdrawn, a word"),
+            ("changed", wrong_withdrawal.low_byte_of_entry, "the printed table, entry 0x100 withdrawn, a word"),
+            ("changed", wrong_withdrawal.no_entry_first, "withdrawn from a bad table, no such entry"),
+            ("changed", wrong_withdrawal.no_entry_last, "the printed table, entry 0x1 withdrawn, a high word"),
+            ("changed", wrong_withdrawal.no_entry_last, "an ambiguous word, no such entry withdrawn"),
+            ("changed", wrong_withdrawal.refused_after, "0-0 added, word 0, entry 2 withdrawn"),
+            ("changed", wrong_withdrawal.mended_taken, "ambiguous, entry 0 withdrawn"),
+            ("changed", wrong_withdrawal.word_of_7, "the highest word"),
+            ("changed", wrong_withdrawal.word_of_6_left_out, "ambiguous, entry 0 withdrawn"),
+            ("changed", wrong_withdrawal.index_for_place, "ambiguous at the end"),
+            ("changed", wrong_withdrawal.index_for_place, "a high word at the end"),
+            ("changed", wrong_withdrawal.whole_table_unambiguous, "0-- and --0, the words that are not ambiguous, entry 0 withdrawn"),
+            ("changed", wrong_withdrawal.reach_judged, "covered by two, entry 1 withdrawn"),
             # in tables
             ("form_at_fault", wrong_numbers.form_three_taken, "form 3"),
             ("form_at_fault", wrong_numbers.form_two_refused, "a field with a point, no fraction bits"),
@@ -759,6 +792,7 @@ def check_same(rng, plan, tally):
     asked = tables.word_for(rng, plan)
     questions = [("lookup", words, asked), ("decode", words, asked, [3] * 8), ("generate", words, [5] * 60), ("measure", words)]
     questions += [("encode", words, number, tables.values_in(entry, asked)) for number, entry in enumerate(plan.entries)]
+    questions += [("changed", words, number, [asked]) for number in range(len(plan.entries))]
     for question in questions:
         line, other = line_of(question), line_of((question[0], twins.twin_of(rng, words), *question[2:]))
         if line != other:
@@ -798,11 +832,6 @@ def check_trees(rng, tally):
 
 # ---------------------------------------------------------------------------- entries that no word selects
 
-def where(number, count):
-    """Which of so many entries: the only one, the first, the last, or one in the middle."""
-    return "only" if count == 1 else "first" if number == 0 else "last" if number == count - 1 else "middle"
-
-
 def count_unreached(table, selected, tally):
     """How an entry came to be selected by no word, and what is in the table."""
     unreached = reach.unreached_in(len(table.entries), selected)
@@ -828,7 +857,7 @@ def check_reach_of(plan, tally):
             fail(f"by words {wanted}, by leaves {outcome}: {hexadecimal(words)}")
     tally[f"by words {wanted.number if wanted else 'tree'}"] += 1
     if wanted is not None and wanted.number == 19:
-        tally[f"19, the {where(wanted.place, len(table.entries))}"] += 1
+        tally[f"19, the {tables.where(wanted.place, len(table.entries))}"] += 1
         count_unreached(table, selected, tally)
     return wanted
 

@@ -35,6 +35,11 @@ class TablePlan:
     entries: list
 
 
+def where(number, count):
+    """Which of so many entries: the only one, the first, the last, or one in the middle."""
+    return "only" if count == 1 else "first" if number == 0 else "last" if number == count - 1 else "middle"
+
+
 # ---------------------------------------------------------------------------- good tables
 
 def span(lowest, size):

@@ -4,6 +4,7 @@ use native.Mathlib.Omega.{arith}
 use mathlib.Core.Path.{_≡_, refl, sym, ap, ap₂, _∙_}
 use mathlib.Core.Bool.{Bool, true, false, not}
 use mathlib.Core.List.{List}
+use mathlib.Core.Logic.{_↔_}
 use mathlib.Core.Option.{Option, none, some}
 use lib.Bits.{bitAnd, and-comm}
 use lib.Dec.{eqb}
@@ -12,7 +13,7 @@ use borrow.Author.Tests.{eqb-true, eqb-false, eq-eqb, ne-eqb}
 use Rattle.words.specs.Tests.{_and_, _or_, exists, first}
 use Rattle.words.proofs.Bits.{includes-true}
 use Rattle.table.specs.Table.{Entry, entryNumber}
-use Rattle.choice.specs.Rule.{Choice, names, nothing, ambiguous, selects, choiceOf, moreSpecific, givesWay, beatsAt, judgeAt, beats, judge}
+use Rattle.choice.specs.Rule.{Choice, names, nothing, ambiguous, selects, isNothing, isAmbiguous, sameChoice, choiceOf, moreSpecific, givesWay, beatsAt, judgeAt, beats, judge}
 use Rattle.words.proofs.Logic.{cases, clash, isFalse, and-l, and-r, and-i, or-il, or-ir, or-i, or-e, not-t, not-it, not-if, every-at, every-make, every-same, exists-none, exists-no, exists-same, first-some, first-no, first-only, first-same}
 
 -- two entries are not each more specific than the other
@@ -40,6 +41,17 @@ selects-names ambiguous e h = cc
 pub names-selects : (a : Choice) (e : ℕ) → a ≡ names e → selects a e ≡ true
 unfolding selects
 names-selects a e q = rw q (eq-eqb e e refl)
+
+-- two choices are the same exactly when the test says so
+pub same-exactly : (a b : Choice) → (sameChoice a b ≡ true) ↔ (a ≡ b)
+unfolding sameChoice selects isNothing isAmbiguous
+same-exactly (names i) b = (λ h. sym (selects-names b i h), λ e. names-selects b i (sym e))
+same-exactly nothing (names j) = (λ h. cc, λ e. cc)
+same-exactly nothing nothing = (λ h. refl, λ e. refl)
+same-exactly nothing ambiguous = (λ h. cc, λ e. cc)
+same-exactly ambiguous (names j) = (λ h. cc, λ e. cc)
+same-exactly ambiguous nothing = (λ h. cc, λ e. cc)
+same-exactly ambiguous ambiguous = (λ h. refl, λ e. refl)
 
 -- what a choice tells of its two parts
 pub choice-names : (o : Option ℕ) (b : Bool) (i : ℕ) → choiceOf o b ≡ names i → o ≡ some i

@@ -25,11 +25,33 @@ pub data Choice : Type 0 where
   nothing : Choice
   ambiguous : Choice
 
--- it is entry e
+-- it is entry e; it is nothing; it is ambiguous
 unfoldable pub selects : Choice → ℕ → Bool
 selects (names i) e = eqb i e
 selects nothing e = false
 selects ambiguous e = false
+
+unfoldable pub isNothing : Choice → Bool
+isNothing (names i) = false
+isNothing nothing = true
+isNothing ambiguous = false
+
+unfoldable pub isAmbiguous : Choice → Bool
+isAmbiguous (names i) = false
+isAmbiguous nothing = false
+isAmbiguous ambiguous = true
+
+-- two choices are the same
+unfoldable pub sameChoice : Choice → Choice → Bool
+sameChoice (names e) a = selects a e
+sameChoice nothing a = isNothing a
+sameChoice ambiguous a = isAmbiguous a
+
+-- the choice where entry i has the number (to i)
+abbrev pub movedChoice : (ℕ → ℕ) → Choice → Choice
+movedChoice to (names i) = names (to i)
+movedChoice to nothing = nothing
+movedChoice to ambiguous = ambiguous
 
 abbrev pub choiceOf : Option ℕ → Bool → Choice
 choiceOf (some i) b = names i

@@ -10,7 +10,7 @@ use Rattle.flat.specs.Nodes.{headerRest, headerOf, testNode, namesNode, nothing
 use Rattle.flat.specs.Walk.{path, maskOf, enters, walkOf, maskOrZero}
 use Rattle.walker.specs.Walked.{walkBytes}
 use Rattle.words.specs.Outcome.{result, faulty, refused}
-use Rattle.kilnumber.specs.Packed.{packed, packedNumber, packedCheck, packedMeasure, packedSigned}
+use Rattle.kilnumber.specs.Packed.{packed, packedNumber, packedCheck, packedMeasure, packedCount, packedSigned}
 
 -- what the call answers, with every definition open
 unfoldable answered : List ℕ → ℕ → ℕ
@@ -78,6 +78,19 @@ cost-is = refl
 
 no-entry-is : packedNumber (refused 11 0 0) ≡ 0xb00000000
 no-entry-is = refl
+
+-- a count: one less than all words of a width of 32, and all of them; an ambiguous word (6); a word that is too wide (7)
+count-is : packedCount (result 0xffffffff) ≡ 0xffffffff
+count-is = refl
+
+all-words-is : packedCount (result 0x100000000) ≡ 0x10000000000
+all-words-is = refl
+
+ambiguous-word-is : packedCount (refused 6 0 0x80000001) ≡ 0x680000001
+ambiguous-word-is = refl
+
+wide-word-is : packedCount (refused 7 0 0) ≡ 0x700000000
+wide-word-is = refl
 
 -- operands: −8, and the greatest number; a stored value; out of range (12); no room for a text (18)
 eight-below-is : packedSigned (result (negsuc 7)) ≡ 0x100fffffff8

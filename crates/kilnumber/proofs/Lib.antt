@@ -1,4 +1,5 @@
 pub mod Simulator
 pub mod Masks
+pub mod Counts
 pub mod Examples
 pub mod Narrowing

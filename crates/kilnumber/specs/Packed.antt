@@ -1,5 +1,5 @@
--- The answers of a walk, of a check, of sizing, of a listing, of cycles and of operands in 64 bits, for C ('Written form').
-use Prim.Native.Nat.{ℕ, suc, _+_, _-_, _*_, _^_, _<_}
+-- The answers of a walk, of a check, of sizing, of a listing, of cycles, of a withdrawal and of operands in 64 bits, for C ('Written form').
+use Prim.Native.Nat.{ℕ, suc, _+_, _-_, _*_, _^_, _/_, _%_, _<_}
 use mathlib.Core.Path.{_≡_}
 use mathlib.Core.List.{List}
 use mathlib.Core.Option.{Option, none, some}
@@ -43,6 +43,13 @@ abbrev pub packedMeasure : Outcome Measure → ℕ
 packedMeasure (result m) = m .nodes + m .tests * 2 ^ 16
 packedMeasure (faulty number place) = number * 2 ^ 32 + place
 packedMeasure (refused number place w) = number * 2 ^ 32 + place + w
+
+-- a count of words, which is ours too: its lowest 32 bits in 31–0 and 24 more in 63–40, since a list may have every word of the width, 2^32
+-- of them; or the place or the word in 31–0; the number in 39–32 (0 if none)
+abbrev pub packedCount : Outcome ℕ → ℕ
+packedCount (result n) = n % 2 ^ 32 + n / 2 ^ 32 % 2 ^ 24 * 2 ^ 40
+packedCount (faulty number place) = number * 2 ^ 32 + place
+packedCount (refused number place w) = number * 2 ^ 32 + place + w
 
 -- a signed number, which is ours too: its lowest 32 bits in 31–0, and bit 40 if it is below zero
 abbrev pub packedWhole : ℤ → ℕ

@@ -1,5 +1,6 @@
 // The C face: a walk of a tree that is given as bytes, the size of a table's tree, the check of a tree against its table, the listing
-// of an image, the cycles of an entry, and the numbers and texts of operands; each answer in 64 bits. include/kilnumber.h is its header.
+// of an image, the cycles of an entry, how far its withdrawal reaches, and the numbers and texts of operands; each answer in 64 bits.
+// include/kilnumber.h is its header.
 use checker::Checked;
 use cost::Costed;
 use image::Listed;
@@ -8,6 +9,7 @@ use numbers::SignedNumber;
 use numbers::StoredValue;
 use numbers::TextLength;
 use walker::Walked;
+use withdrawal::Changed;
 ghost use mathlib.Core.Path.{_≡_};
 ghost use Prim.Native.Nat.{ℕ, _<_, _^_};
 ghost use Rattle.flat.specs.Walk.{maskOrZero};
@@ -18,10 +20,11 @@ ghost use Rattle.tree.specs.Generate.{measureOf};
 ghost use Rattle.maker.specs.Answers.{saidMeasure};
 ghost use Rattle.checker.specs.Checker.{checkOf, said as saidCheck};
 ghost use Rattle.cost.specs.Cost.{cyclesOf, said as saidCycles};
+ghost use Rattle.withdrawal.specs.Counted.{changedOf, said as saidChanged};
 ghost use Rattle.numbers.specs.Whole.{onSide};
 ghost use Rattle.numbers.specs.Calls.{signedOf, storedOf};
 ghost use Rattle.numbers.specs.Answers.{saidSigned, saidStored, saidText};
-ghost use Rattle.kilnumber.specs.Packed.{packed, packedNumber, packedCheck, packedMeasure, packedWhole, packedSigned, Narrow, ListsPacked, WritesPacked};
+ghost use Rattle.kilnumber.specs.Packed.{packed, packedNumber, packedCheck, packedMeasure, packedCount, packedWhole, packedSigned, Narrow, ListsPacked, WritesPacked};
 
 // An answer in 64 bits.
 fn pack(answer: Walked) -> u64
@@ -137,6 +140,31 @@ pub extern "C" fn kilnumber_cycles(table: &[u32], entry: u32) -> u64
 {
     let answer = cost::cycles(table, entry);
     pack_cycles(answer)
+}
+
+// A count of words in 64 bits.
+fn pack_changed(answer: Changed) -> u64
+    ensures { λ r. ⌜ r ≡ packedCount (saidChanged answer) ⌝ }
+{
+    match answer {
+        Changed::Words(count) => {
+            let n = count as u64;
+            n % 4294967296 + n / 4294967296 % 16777216 * 1099511627776
+        }
+        Changed::NoEntry => 11 * 4294967296,
+        Changed::TooWide => 7 * 4294967296,
+        Changed::Ambiguous(word) => 6 * 4294967296 + (word as u64),
+        Changed::Refused(number, place) => (number as u64) * 4294967296 + (place as u64),
+    }
+}
+
+// What a core's designer calls before an instruction is withdrawn: how many words of a list, of a firmware say, it changes.
+#[no_mangle]
+pub extern "C" fn kilnumber_changed(table: &[u32], entry: u32, list: &[u32]) -> u64
+    ensures { λ r. ⌜ r ≡ packedCount (changedOf (readTable (now (table .entry))) entry (now (list .entry))) ⌝ }
+{
+    let answer = withdrawal::count_changed(table, entry, list);
+    pack_changed(answer)
 }
 
 // A whole number of at most 32 bits beside its sign, in 64 bits.

@@ -18,6 +18,7 @@ use operands::Encoding;
 use selection::Selected;
 use table::Answer;
 use walker::Walked;
+use withdrawal::Changed;
 use words::Cause;
 ghost use mathlib.Core.Path.{_≡_};
 ghost use lib.ListN.{length};
@@ -27,8 +28,10 @@ const MOST_BYTES: usize = 1048576;
 
 const MOST_WORDS: usize = 262144;
 
-// Requests are numbered from 1.
-const LAST_NUMBER: u32 = 16;
+// Requests are numbered from 1 on, and one stands apart.
+const LAST_IN_ORDER: u32 = 16;
+
+const WITHDRAWAL: u32 = 22;
 
 const MOST_PARTS: u32 = 8;
 
@@ -43,6 +46,11 @@ struct Request {
     next: usize,
 }
 
+// Whether a request has this number.
+fn is_known(number: u32) -> bool {
+    0 < number && number <= LAST_IN_ORDER || number == WITHDRAWAL
+}
+
 // The index of the parts of the request at an index; 0 if its number is not known, it has too many
 // of them, or the words end before them.
 fn parts_at(ws: &[u32], at: usize) -> usize {
@@ -51,7 +59,7 @@ fn parts_at(ws: &[u32], at: usize) -> usize {
     }
     let number = ws[at];
     let second = at + 1;
-    if number < 1 || LAST_NUMBER < number {
+    if !is_known(number) {
         return 0;
     }
     if ws.len() <= second {
@@ -473,6 +481,17 @@ fn put_text(page: &mut [u8], at: usize, ws: &[u32], parts: Parts, out: &mut [u8]
     put_byte_buffer(page, end, out)
 }
 
+// Request 22. A list that came in has fewer than 2^32 words.
+fn put_changed(page: &mut [u8], at: usize, ws: &[u32], parts: Parts) -> usize {
+    let entry = number_in(ws, parts[1]);
+    let answer = withdrawal::count_changed(words_in(ws, parts[0]), entry, words_in(ws, parts[2]));
+    let next = put_cause(page, at, answer.cause());
+    match answer {
+        Changed::Words(count) => put_number(page, next, (count % 4294967296) as u32),
+        _ => next,
+    }
+}
+
 // What follows a request's number on its line.
 fn put_answer(
     page: &mut [u8],
@@ -502,6 +521,7 @@ fn put_answer(
         14 => put_signed(page, at, ws, parts),
         15 => put_stored(page, at, ws, parts),
         16 => put_text(page, at, ws, parts, lent_bytes(byte_room, bytes, parts[2])),
+        WITHDRAWAL => put_changed(page, at, ws, parts),
         _ => at,
     }
 }

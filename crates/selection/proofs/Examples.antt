@@ -55,10 +55,10 @@ unfolding looks
 wide = refl
 
 -- width 3, 0-- and --0: word 0 is ambiguous; with 0-0 it selects the third
-abbrev two : List ℕ
+abbrev pub two : List ℕ
 two = 0x10020003 ∷ 0x20000310 ∷ 4 ∷ 0 ∷ 0x30000002 ∷ 0x20000310 ∷ 1 ∷ 0 ∷ 0x30000102 ∷ []
 
-abbrev three : List ℕ
+abbrev pub three : List ℕ
 three = 0x10030003 ∷ 0x20000310 ∷ 4 ∷ 0 ∷ 0x30000002 ∷ 0x20000310 ∷ 1 ∷ 0 ∷ 0x30000102 ∷ 0x20000310 ∷ 5 ∷ 0 ∷ 0x30000101 ∷ []
 
 overlaps : lookOf (readTable two) 0 ∷ lookOf (readTable three) 0 ∷ [] ≡ refused 6 0 0 ∷ result (some 2) ∷ []

@@ -2,25 +2,26 @@
 use mathlib.Core.Path.{_≡_, refl, ap, _∙_}
 use mathlib.Core.List.{List}
 use mathlib.Core.Bool.{true, false, not}
-use mathlib.Core.Option.{Option}
-use Prim.Native.Nat.{ℕ, _≤_, _<_, _^_, min}
-use lib.Dec.{eqb, ltb}
+use Prim.Native.Nat.{ℕ, _≤_, _<_, min}
+use native.Mathlib.Omega.{arith}
+use lib.Dec.{eqb}
 use Rattle.words.proofs.Logic.{cases}
-use Rattle.words.specs.Outcome.{Outcome, faulty, refused}
+use Rattle.words.specs.Outcome.{faulty}
 use Rattle.table.specs.Table.{Entry, entriesAt}
 use Rattle.table.specs.Check.{readTable}
 use Rattle.table.specs.Ready.{Ready}
-use Rattle.table.proofs.Views.{ready-read}
-use Rattle.choice.specs.Rule.{Choice, names, judgeAt}
+use Rattle.table.proofs.Views.{ready-read, ready-few}
+use Rattle.choice.specs.Rule.{names, judgeAt}
 use Rattle.choice.specs.Status.{codeOf, sureIn, liveIn, Stated}
 use Rattle.choice.specs.Judged.{entryPlaced, saidVerdict}
 use Rattle.choice.specs.declared.Verdict.{Verdict}
 use Rattle.choice.proofs.Judging.{judged-lt}
 use Rattle.choice.proofs.Placed.{judge-stated, judge-placed}
 use Rattle.selection.specs.Selection.{claims, select}
-use Rattle.selection.specs.Lookup.{lookedUp, lookOf, placeFound}
-use Rattle.selection.specs.Places.{statusFor, chosenAt, placeChosen, EntryBelow}
+use Rattle.selection.specs.Lookup.{lookedIn, lookOf, said, placeFound, Finds}
+use Rattle.selection.specs.Places.{statusFor, chosenAt, placeChosen, EntryBelow, FindsAmong}
 use Rattle.selection.specs.declared.Selected.{Selected}
+use Rattle.selection.specs.declared.Found.{Found}
 use Rattle.selection.specs.declared.Selected.the-variants as code
 
 -- ---- the status of an entry for a word
@@ -58,20 +59,6 @@ pub chosen-is : (ws places : List ℕ) (width n : ℕ) → Ready ws places width
 unfolding chosenAt select
 chosen-is ws places width n ready w = judge-placed ws places width n ready (claims w) (claims w)
 
--- ---- the answer on a table that is read
-module _ (ws places : List ℕ) (width n w : ℕ) (ready : Ready ws places width n) where
-  pub too-wide : ltb w (2 ^ width) ≡ false → refused 7 0 0 ≡ lookOf (readTable ws) w
-  unfolding lookOf
-  too-wide e = rw (ready-read ws places width n ready, e)
-
-  pub looked : (x : Outcome (Option ℕ)) (c : Choice) → ltb w (2 ^ width) ≡ true → x ≡ lookedUp w c → c ≡ select (entriesAt ws n 1) w → x ≡ lookOf (readTable ws) w
-  unfolding lookOf
-  looked x c e t s = rw (ready-read ws places width n ready, e) (t ∙ ap (lookedUp w) s)
-
-pub faulty-look : (ws : List ℕ) (w a b : ℕ) → readTable ws ≡ faulty a b → faulty a b ≡ lookOf (readTable ws) w
-unfolding lookOf
-faulty-look ws w a b e = rw e
-
 -- the place of the entry that is answered
 pub place-found : (ws places : List ℕ) (width n : ℕ) (ready : Ready ws places width n) (s : Selected) → EntryBelow n s → placeChosen places s ≡ placeFound ws s
 place-found ws places width n ready (code.Entry e) h = ready .each e h
@@ -79,3 +66,23 @@ place-found ws places width n ready code.Nothing h = refl
 place-found ws places width n ready (code.Ambiguous w) h = refl
 place-found ws places width n ready code.TooWide h = refl
 place-found ws places width n ready (code.Refused a b) h = refl
+
+-- ---- the answer on a table that is read
+module _ (ws places : List ℕ) (width n w : ℕ) (ready : Ready ws places width n) (r : Found) (f : FindsAmong ws places width (min n 256) w r) where
+  abbrev all : FindsAmong ws places width n w r
+  all = let few : min n 256 ≡ n = omega (arith, ready-few ws places width n ready) in rw few at f
+
+  pub among-all : said (r .answer) ≡ lookedIn width w (select (entriesAt ws n 1) w)
+  among-all = all .answer ∙ ap (lookedIn width w) (chosen-is ws places width n ready w)
+
+  pub among-finds : Finds ws w r
+  unfolding lookOf
+  among-finds =
+      record {
+        answer = rw (ready-read ws places width n ready) among-all;
+        place = all .place ∙ place-found ws places width n ready (r .answer) (all .bound);
+      }
+
+pub faulty-look : (ws : List ℕ) (w a b : ℕ) → readTable ws ≡ faulty a b → faulty a b ≡ lookOf (readTable ws) w
+unfolding lookOf
+faulty-look ws w a b e = rw e

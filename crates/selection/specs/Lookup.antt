@@ -20,11 +20,15 @@ lookedUp w (names e) = result (some e)
 lookedUp w nothing = result none
 lookedUp w ambiguous = refused 6 0 w
 
--- "lookup 7, 6" after the table's faults; "word has a bit at or above the width": 7
+-- "lookup 7, 6": "word has a bit at or above the width": 7
+abbrev pub lookedIn : ℕ → ℕ → Choice → Outcome (Option ℕ)
+lookedIn width w a = cond (ltb w (2 ^ width)) (lookedUp w a) (refused 7 0 0)
+
+-- after the table's faults
 unfoldable pub lookOf : Outcome Table → ℕ → Outcome (Option ℕ)
 lookOf (faulty n p) w = faulty n p
 lookOf (refused n p x) w = refused n p x
-lookOf (result t) w = cond (ltb w (2 ^ (t .width))) (lookedUp w (select (t .entries) w)) (refused 7 0 0)
+lookOf (result t) w = lookedIn (t .width) w (select (t .entries) w)
 
 -- the paper's number and values for each case of the answer
 abbrev pub said : Selected → Outcome (Option ℕ)

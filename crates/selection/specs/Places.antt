@@ -1,4 +1,4 @@
--- The choice among entries by the places at which they stand: what the private functions state.
+-- The choice among entries by the places at which they stand.
 use Prim.Native.Nat.{ℕ, _<_}
 use mathlib.Core.Path.{_≡_}
 use mathlib.Core.Bool.{cond}
@@ -9,7 +9,7 @@ use Rattle.choice.specs.Rule.{Choice, judgeAt}
 use Rattle.choice.specs.Status.{Status, Dead, Sure}
 use Rattle.choice.specs.Judged.{entryPlaced}
 use Rattle.selection.specs.Selection.{claims}
-use Rattle.selection.specs.Lookup.{lookedUp, said}
+use Rattle.selection.specs.Lookup.{lookedUp, lookedIn, said}
 use Rattle.selection.specs.declared.Selected.{Selected}
 use Rattle.selection.specs.declared.Selected.the-variants as code
 use Rattle.selection.specs.declared.Found.{Found}
@@ -40,5 +40,11 @@ EntryBelow n (code.Refused number place) = Unit {0}
 -- the answer on n entries, and the place of the entry that is answered
 pub record Chosen (ws places : List ℕ) (n w : ℕ) (r : Found) : Type 0 where
   pub answer : said (r .answer) ≡ lookedUp w (chosenAt ws places n w)
+  pub place : r .place ≡ placeChosen places (r .answer)
+  pub bound : EntryBelow n (r .answer)
+
+-- the answer on n entries and a width, and the place of the entry that is answered
+pub record FindsAmong (ws places : List ℕ) (width n w : ℕ) (r : Found) : Type 0 where
+  pub answer : said (r .answer) ≡ lookedIn width w (chosenAt ws places n w)
   pub place : r .place ≡ placeChosen places (r .answer)
   pub bound : EntryBelow n (r .answer)

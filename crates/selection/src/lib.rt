@@ -3,7 +3,7 @@ use choice::Verdict;
 use table::Answer;
 use words::Cause;
 ghost use mathlib.Core.Path.{_≡_};
-ghost use Prim.Native.Nat.{ℕ, _≤_, _<_, _^_};
+ghost use Prim.Native.Nat.{ℕ, _≤_, _<_, _^_, min};
 ghost use lib.ListN.{getD};
 ghost use mathlib.Core.Bool.{true, false};
 ghost use Rattle.words.specs.Outcome.{causeOf};
@@ -15,7 +15,7 @@ ghost use Rattle.choice.specs.Status.{codeOf, Stated};
 ghost use Rattle.choice.specs.Judged.{entryPlaced};
 ghost use Rattle.selection.specs.Selection.{satisfied, claims as claimsOf};
 ghost use Rattle.selection.specs.Lookup.{said, lookOf, Finds};
-ghost use Rattle.selection.specs.Places.{statusFor, Chosen};
+ghost use Rattle.selection.specs.Places.{statusFor, Chosen, FindsAmong};
 
 // Whether a word matches the pattern at p.
 fn matches(ws: &[u32], p: usize, word: u32) -> bool
@@ -154,6 +154,21 @@ fn choose(ws: &[u32], places: &[u32; 256], n: usize, word: u32) -> Found
     }
 }
 
+// Looks a word up among the entries at these places, of which the first 256 count: who has read the table once need not read it again
+// for each word.
+pub fn find_among(ws: &[u32], places: &[u32; 256], width: u32, count: usize, word: u32) -> Found
+    ensures { λ r. ⌜ FindsAmong (now (ws .entry)) (now (places .entry)) width (min count 256) word r ⌝ }
+{
+    if !words::fits(word, width) {
+        return Found {
+            answer: Selected::TooWide,
+            place: 0,
+        };
+    }
+    let n = words::lesser(count, 256);
+    choose(ws, places, n, word)
+}
+
 // Looks a word up, and gives the place of the entry that it selects.
 pub fn find(ws: &[u32], word: u32) -> Found
     ensures { λ r. ⌜ Finds (now (ws .entry)) word r ⌝ }
@@ -167,13 +182,7 @@ pub fn find(ws: &[u32], word: u32) -> Found
             place: 0,
         },
         Answer::Accepted { width, count } => {
-            if !words::fits(word, width) {
-                return Found {
-                    answer: Selected::TooWide,
-                    place: 0,
-                };
-            }
-            choose(ws, &places, count as usize, word)
+            find_among(ws, &places, width, count as usize, word)
         }
     }
 }

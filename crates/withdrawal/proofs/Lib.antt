@@ -1,0 +1,6 @@
+pub mod Withdrawing
+pub mod Counting
+pub mod Unfit
+pub mod Reaching
+pub mod Cases
+pub mod Examples

@@ -1,0 +1,154 @@
+-- Document 02, No. 13, sentence by sentence, over the definitions that the calls' contracts cite. Assumes nothing.
+--   `withdrawal::count_changed` answers `changedOf (readTable ws) k list`; lookup answers `lookOf (readTable ws) w`.
+--     length-without (Withdrawing.antt), each-other     what the table is that lacks a single entry
+--     others-stay (Withdrawing.antt), same-entry, same-nothing, bound     what a withdrawal leaves as it was
+--     unchanged, ambiguous-changes, renumbering-not (Withdrawing.antt)     when a word changes its answer
+--     changes-exactly, counts-exactly     the count
+--     faulty-first, no-such-entry, seven-exactly, six-exactly     what is refused
+use Prim.Native.Nat.{ℕ, _^_, _≤_, _<_}
+use native.Mathlib.Omega.{arith}
+use mathlib.Core.Path.{_≡_, sym, ap, _∙_}
+use mathlib.Core.Bool.{true, false}
+use mathlib.Core.Logic.{_↔_}
+use mathlib.Core.List.{List}
+use mathlib.Core.Option.{Option, none, some}
+use lib.Dec.{ltb}
+use lib.ListN.{length}
+use borrow.Author.Tests.{lt-ltb, le-ltb, ltb-true, ltb-false, ne-eqb}
+use Rattle.words.specs.Tests.{howMany}
+use Rattle.words.specs.Words.{word}
+use Rattle.words.specs.Outcome.{Outcome, result, faulty, refused}
+use Rattle.words.proofs.Logic.{cases, clash, or-l, not-f}
+use Rattle.words.proofs.Outcomes.{not-refused, not-faulty, refused-not-faulty, other-number}
+use Rattle.table.specs.Table.{Entry, Table, entryNumber}
+use Rattle.table.specs.Check.{readTable}
+use Rattle.choice.specs.Rule.{names, ambiguous, selects}
+use Rattle.choice.proofs.Judging.{selects-names, names-selects}
+use Rattle.selection.specs.Selection.{select}
+use Rattle.selection.specs.Lookup.{lookedUp, lookOf}
+use Rattle.selection.proofs.Formula.{Contested, ambiguous-exactly}
+use Rattle.withdrawal.specs.Withdrawn.{without, lowered, renumbered, changes}
+use Rattle.withdrawal.specs.Counted.{unfit, countedIn, changedOf}
+use Rattle.withdrawal.proofs.Withdrawing.{formerly-lowered, lowered-lt, length-without, within, others-stay, changes-selects}
+use Rattle.withdrawal.proofs.Counting.{Tells, tells, fit-clear}
+use Rattle.withdrawal.proofs.Unfit.{Fit, FirstUnfit, all-fit, at-first, three}
+
+-- ---- the table that lacks an entry
+
+module _ (es : List Entry) (k : ℕ) (h : k < length es) where
+  -- "the one that lacks a single entry": it is one shorter (length-without), and each other entry is there, renumbered
+  pub each-other : (i : ℕ) → i < length es → (i ≡ k → ⊥) → (lowered k i < length (without k es)) × (entryNumber (without k es) (lowered k i) ≡ entryNumber es i)
+  each-other i l d =
+      let n = length-without es k h in
+      let m : lowered k i < length (without k es) = lowered-lt k i _ d (omega arith) (omega arith) in
+      (m, sym (within es k h .each (lowered k i) m) ∙ ap (entryNumber es) (formerly-lowered k i d))
+
+  -- of a word that was not ambiguous: it changes its answer exactly when it selected the entry
+  pub changes-exactly : (w : ℕ) → (select es w ≡ ambiguous → ⊥) → (changes es k w ≡ true) ↔ (select es w ≡ names k)
+  changes-exactly w fit = (
+    λ t. selects-names _ k (sym (changes-selects es k h w fit) ∙ t),
+    λ e. changes-selects es k h w fit ∙ names-selects _ k e,
+  )
+
+-- "Compare an unambiguous table with the one that lacks a single entry": two tables that read, and what lookup answers
+module _ (ws vs : List ℕ) (t u : Table) (reads : readTable ws ≡ result t) (lacking : readTable vs ≡ result u) (k : ℕ) (h : k < length (t .entries))
+    (wide : u .width ≡ t .width) (lacks : u .entries ≡ without k (t .entries)) (w : ℕ) where
+  looked-up : (a : Option ℕ) → lookOf (readTable ws) w ≡ result a → Tells t w (result a)
+  unfolding lookOf
+  looked-up a e = tells t w (result a) (sym (rw reads at e))
+
+  stays : unfit t w ≡ false → selects (select (t .entries) w) k ≡ false → lookOf (readTable vs) w ≡ lookedUp w (renumbered k (select (t .entries) w))
+  unfolding lookOf unfit
+  stays f other =
+      let l : ltb w (2 ^ (t .width)) ≡ true = not-f (or-l _ f) in
+      rw (lacking, wide, lacks, l, others-stay (t .entries) k h w (fit-clear t w f) (λ e. clash (names-selects _ k e) other))
+
+  -- "every word that did not select this entry selects the same entry as before, renumbered,"
+  pub same-entry : (i : ℕ) → (i ≡ k → ⊥) → lookOf (readTable ws) w ≡ result (some i) → lookOf (readTable vs) w ≡ result (some (lowered k i))
+  unfolding selects
+  same-entry i d e = let a = looked-up (some i) e in rw (a .1) at (stays (a .0) (rw (a .1) (ne-eqb i k d)))
+
+  -- "or nothing as before"
+  pub same-nothing : lookOf (readTable ws) w ≡ result none → lookOf (readTable vs) w ≡ result none
+  unfolding selects
+  same-nothing e = let a = looked-up none e in rw (a .1) at (stays (a .0) (rw (a .1)))
+
+-- so no other word of the width of an unambiguous table changes its answer
+pub bound : (t : Table) (k : ℕ) → k < length (t .entries) → ((w : ℕ) → w < 2 ^ (t .width) → Contested (t .entries) w → ⊥)
+    → (w : ℕ) → w < 2 ^ (t .width) → (changes (t .entries) k w ≡ true) ↔ (select (t .entries) w ≡ names k)
+bound t k h clear w l = changes-exactly (t .entries) k h w (λ e. clear w l (ambiguous-exactly (t .entries) w .0 e))
+
+-- ---- the count
+
+-- a table that reads
+module _ (ws : List ℕ) (t : Table) (reads : readTable ws ≡ result t) (k : ℕ) (list : List ℕ) where
+  module _ (h : k < length (t .entries)) where
+    counted : changedOf (readTable ws) k list ≡ countedIn t k list
+    unfolding changedOf
+    counted = rw (reads, lt-ltb k _ h)
+
+    -- "the count is the number of those words that selected the entry"; there is one exactly when all words of the list are fit
+    pub counts-exactly : (n : ℕ) → (changedOf (readTable ws) k list ≡ result n)
+        ↔ (((i : ℕ) → i < length list → Fit t (word list i)) × (n ≡ howMany (λ i. selects (select (t .entries) (word list i)) k) (length list)))
+    counts-exactly n = (
+      λ q. three t k h list
+          (λ f. (f, let e = sym q ∙ counted ∙ all-fit t k h list f in cc))
+          (λ i u l e. absurd (not-refused (sym q ∙ counted ∙ e)))
+          (λ i u l e. absurd (not-refused (sym q ∙ counted ∙ e))),
+      λ c. counted ∙ all-fit t k h list (c .0) ∙ ap result (sym (c .1)),
+    )
+
+    -- "for the first unfit word of the list 7, or 6 if it was ambiguous before the withdrawal", with the word
+    pub seven-exactly : (changedOf (readTable ws) k list ≡ refused 7 0 0) ↔ ((i : ℕ) × FirstUnfit t list i × (2 ^ (t .width) ≤ word list i))
+    seven-exactly = (
+      λ q. three t k h list
+          (λ f. absurd (not-refused (sym (counted ∙ all-fit t k h list f) ∙ q)))
+          (λ i u l e. absurd (other-number (sym e ∙ sym counted ∙ q) (omega arith)))
+          (λ i u l e. (i, u, l)),
+      λ u. counted ∙ at-first t k h list (u .0) (u .1) ∙ rw (le-ltb _ _ (u .2)),
+    )
+
+    pub six-exactly : (w : ℕ) → (changedOf (readTable ws) k list ≡ refused 6 0 w)
+        ↔ ((i : ℕ) × FirstUnfit t list i × (word list i ≡ w) × (w < 2 ^ (t .width)) × Contested (t .entries) w)
+    six-exactly w = (
+      λ q. three t k h list
+          (λ f. absurd (not-refused (sym (counted ∙ all-fit t k h list f) ∙ q)))
+          (λ i u l e. let o : refused 6 0 (word list i) ≡ refused 6 0 w = sym e ∙ sym counted ∙ q in
+          let z : word list i ≡ w = cc in
+          (i, u, z, rw z at (l .0), rw z at (l .1)))
+          (λ i u l e. absurd (other-number (sym e ∙ sym counted ∙ q) (omega arith))),
+      λ u. counted ∙ at-first t k h list (u .0) (u .1) ∙ rw (u .2, lt-ltb _ _ (u .3)),
+    )
+
+    -- no other number, and no fault
+    not-eleven : changedOf (readTable ws) k list ≡ refused 11 0 0 → ⊥
+    not-eleven q =
+        three t k h list
+        (λ f. not-refused (sym (counted ∙ all-fit t k h list f) ∙ q))
+        (λ i u l e. other-number (sym e ∙ sym counted ∙ q) (omega arith))
+        (λ i u l e. other-number (sym e ∙ sym counted ∙ q) (omega arith))
+
+  -- "11 for no such entry", whatever the list is
+  pub no-such-entry : (changedOf (readTable ws) k list ≡ refused 11 0 0) ↔ (length (t .entries) ≤ k)
+  unfolding changedOf
+  no-such-entry = (
+    λ q. cases (ltb k (length (t .entries))) (λ l. absurd (not-eleven (ltb-true _ _ l) q)) (λ l. ltb-false _ _ l),
+    λ l. rw (reads, le-ltb k _ l),
+  )
+
+-- "After the table's faults"
+faulty-of : (o : Outcome Table) (k : ℕ) (list : List ℕ) (n p : ℕ) → (changedOf o k list ≡ faulty n p) ↔ (o ≡ faulty n p)
+unfolding changedOf
+faulty-of (faulty a b) k list n p = (λ q. cc, λ q. cc)
+faulty-of (refused a b w) k list n p = (λ q. absurd (refused-not-faulty q), λ q. absurd (refused-not-faulty q))
+faulty-of (result t) k list n p = (
+  λ q. cases (ltb k (length (t .entries)))
+      (λ l. let c : countedIn t k list ≡ faulty n p = rw l at q in
+      let h = ltb-true _ _ l in
+      absurd (three t k h list (λ f. not-faulty (sym (all-fit t k h list f) ∙ c)) (λ i u x e. refused-not-faulty (sym e ∙ c)) (λ i u x e. refused-not-faulty (sym e ∙ c))))
+      (λ l. absurd (refused-not-faulty (rw l at q))),
+  λ q. absurd (not-faulty q),
+)
+
+pub faulty-first : (ws list : List ℕ) (k n p : ℕ) → (changedOf (readTable ws) k list ≡ faulty n p) ↔ (readTable ws ≡ faulty n p)
+faulty-first ws list k n p = faulty-of (readTable ws) k list n p

@@ -1,0 +1,2 @@
+pub mod Withdrawn
+pub mod Counted
