@@ -154,8 +154,7 @@ fn choose(ws: &[u32], places: &[u32; 256], n: usize, word: u32) -> Found
     }
 }
 
-// Looks a word up among the entries at these places, of which the first 256 count: who has read the table once need not read it again
-// for each word.
+// Looks a word up among so many entries at these places, 256 at most. Who has read the table need not read it again for each word.
 pub fn find_among(ws: &[u32], places: &[u32; 256], width: u32, count: usize, word: u32) -> Found
     ensures { λ r. ⌜ FindsAmong (now (ws .entry)) (now (places .entry)) width (min count 256) word r ⌝ }
 {

@@ -4,6 +4,7 @@ use mathlib.Core.List.{List, [], _∷_, map}
 use Prim.Native.Nat.{ℕ}
 use Rattle.words.specs.Tests.{howMany}
 use Rattle.words.specs.Outcome.{Outcome, result, refused}
+use Rattle.table.specs.Table.{tableOf}
 use Rattle.table.specs.Check.{readTable}
 use Rattle.table.specs.Worked.{worked}
 use Rattle.choice.specs.Rule.{selects, isNothing, isAmbiguous, sameChoice}
@@ -21,6 +22,11 @@ counts ws list entries = map (λ k. changedOf (readTable ws) k list) entries
 first-middle-last : counts three (0 ∷ 1 ∷ 2 ∷ 3 ∷ 4 ∷ 5 ∷ 6 ∷ 7 ∷ []) (0 ∷ 1 ∷ 2 ∷ 3 ∷ []) ≡ result 2 ∷ result 2 ∷ result 2 ∷ refused 11 0 0 ∷ []
 unfolding counts
 first-middle-last = refl
+
+-- the third is what 0-- and --0 lack: what Reaching.antt says of two tables holds of these
+lacks : tableOf two ≡ record { width = 3; entries = without 2 (tableOf three .entries) }
+unfolding counts
+lacks = refl
 
 -- no word; a word that is there three times
 none-and-again : changedOf (readTable three) 2 [] ∷ changedOf (readTable three) 2 (0 ∷ 5 ∷ 0 ∷ 0 ∷ []) ∷ [] ≡ result 0 ∷ result 3 ∷ []
