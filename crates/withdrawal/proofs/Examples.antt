@@ -23,7 +23,7 @@ first-middle-last : counts three (0 ∷ 1 ∷ 2 ∷ 3 ∷ 4 ∷ 5 ∷ 6 ∷ 7 �
 unfolding counts
 first-middle-last = refl
 
--- the third is what 0-- and --0 lack: what Reaching.antt says of two tables holds of these
+-- the third is what 0-- and --0 lack: what Changing.antt says of two tables holds of these
 lacks : tableOf two ≡ record { width = 3; entries = without 2 (tableOf three .entries) }
 unfolding counts
 lacks = refl

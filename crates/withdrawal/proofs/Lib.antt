@@ -1,6 +1,6 @@
 pub mod Withdrawing
 pub mod Counting
 pub mod Unfit
-pub mod Reaching
+pub mod Changing
 pub mod Cases
 pub mod Examples

@@ -3,7 +3,7 @@ use selection::Selected;
 use table::Answer;
 use words::Cause;
 ghost use mathlib.Core.Path.{_≡_};
-ghost use Prim.Native.Nat.{ℕ, _<_};
+ghost use Prim.Native.Nat.{_<_};
 ghost use Rattle.words.specs.Outcome.{causeOf};
 ghost use Rattle.table.specs.Check.{readTable};
 ghost use Rattle.table.specs.Ready.{Ready};
