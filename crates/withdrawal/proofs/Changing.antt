@@ -1,11 +1,12 @@
 -- Document 02, No. 13, sentence by sentence, over the definitions that the calls' contracts cite. Assumes nothing.
 --   `withdrawal::count_changed` answers `changedOf (readTable ws) k list`; lookup answers `lookOf (readTable ws) w`.
---     length-without (Withdrawing.antt), each-other     what the table is that lacks a single entry
---     others-stay (Withdrawing.antt), same-entry, same-nothing, bound     what a withdrawal leaves as it was
---     unchanged, ambiguous-changes, renumbering-not (Withdrawing.antt)     when a word changes its answer
---     changes-exactly, counts-exactly     the count
+--     lacks-one     what the table is that lacks a single entry
+--     same-entry, same-nothing     what a withdrawal leaves as it was
+--     ambiguous-changes, renumbering-not     what counts as a change
+--     changes-exactly, bound     which words change
+--     counts-exactly     the count
 --     faulty-first, no-such-entry, seven-exactly, six-exactly     what is refused
-use Prim.Native.Nat.{ℕ, _^_, _≤_, _<_}
+use Prim.Native.Nat.{ℕ, _+_, _^_, _≤_, _<_}
 use native.Mathlib.Omega.{arith}
 use mathlib.Core.Path.{_≡_, sym, ap, _∙_}
 use mathlib.Core.Bool.{true, false}
@@ -18,37 +19,27 @@ use borrow.Author.Tests.{lt-ltb, le-ltb, ltb-true, ltb-false, ne-eqb}
 use Rattle.words.specs.Tests.{howMany}
 use Rattle.words.specs.Words.{word}
 use Rattle.words.specs.Outcome.{Outcome, result, faulty, refused}
-use Rattle.words.proofs.Logic.{cases, clash, or-l, not-f}
+use Rattle.words.proofs.Logic.{cases, clash, isTrue, or-l, not-f}
 use Rattle.words.proofs.Outcomes.{not-refused, not-faulty, refused-not-faulty, other-number}
 use Rattle.table.specs.Table.{Entry, Table, entryNumber}
 use Rattle.table.specs.Check.{readTable}
-use Rattle.choice.specs.Rule.{names, ambiguous, selects}
+use Rattle.choice.specs.Rule.{names, ambiguous, selects, movedChoice}
 use Rattle.choice.proofs.Judging.{selects-names, names-selects}
 use Rattle.selection.specs.Selection.{select}
 use Rattle.selection.specs.Lookup.{lookedUp, lookOf}
 use Rattle.selection.proofs.Formula.{Contested, ambiguous-exactly}
-use Rattle.withdrawal.specs.Withdrawn.{without, lowered, renumbered, changes}
+use Rattle.withdrawal.specs.Withdrawn.{without, lowered, formerly, renumbered, changes}
 use Rattle.withdrawal.specs.Counted.{unfit, countedIn, changedOf}
-use Rattle.withdrawal.proofs.Withdrawing.{formerly-lowered, lowered-lt, length-without, within, others-stay, changes-selects}
+use Rattle.withdrawal.proofs.Withdrawing.{formerly-lowered, length-without, each-other, others-stay, unchanged, changes-selects}
 use Rattle.withdrawal.proofs.Counting.{Tells, tells, fit-clear}
-use Rattle.withdrawal.proofs.Unfit.{Fit, FirstUnfit, all-fit, at-first, three}
+use Rattle.withdrawal.proofs.Unfit.{Fit, FirstUnfit, all-fit, at-first, three, no-fault, six-or-seven}
 
 -- ---- the table that lacks an entry
 
-module _ (es : List Entry) (k : ℕ) (h : k < length es) where
-  -- "the one that lacks a single entry": it is one shorter (length-without), and each other entry is there, renumbered
-  pub each-other : (i : ℕ) → i < length es → (i ≡ k → ⊥) → (lowered k i < length (without k es)) × (entryNumber (without k es) (lowered k i) ≡ entryNumber es i)
-  each-other i l d =
-      let n = length-without es k h in
-      let m : lowered k i < length (without k es) = lowered-lt k i _ d (omega arith) (omega arith) in
-      (m, sym (within es k h .each (lowered k i) m) ∙ ap (entryNumber es) (formerly-lowered k i d))
-
-  -- of a word that was not ambiguous: it changes its answer exactly when it selected the entry
-  pub changes-exactly : (w : ℕ) → (select es w ≡ ambiguous → ⊥) → (changes es k w ≡ true) ↔ (select es w ≡ names k)
-  changes-exactly w fit = (
-    λ t. selects-names _ k (sym (changes-selects es k h w fit) ∙ t),
-    λ e. changes-selects es k h w fit ∙ names-selects _ k e,
-  )
+-- "the one that lacks a single entry": it is one shorter, and each other entry is there, renumbered
+pub lacks-one : (es : List Entry) (k : ℕ) → k < length es → (length (without k es) + 1 ≡ length es)
+    × ((i : ℕ) → i < length es → (i ≡ k → ⊥) → (lowered k i < length (without k es)) × (entryNumber (without k es) (lowered k i) ≡ entryNumber es i))
+lacks-one es k h = (length-without es k h, each-other es k h)
 
 -- "Compare an unambiguous table with the one that lacks a single entry": two tables that read, and what lookup answers
 module _ (ws vs : List ℕ) (t u : Table) (reads : readTable ws ≡ result t) (lacking : readTable vs ≡ result u) (k : ℕ) (h : k < length (t .entries))
@@ -73,12 +64,30 @@ module _ (ws vs : List ℕ) (t u : Table) (reads : readTable ws ≡ result t) (l
   unfolding selects
   same-nothing e = let a = looked-up none e in rw (a .1) at (stays (a .0) (rw (a .1)))
 
+-- ---- a word that changes its answer
+
+module _ (es : List Entry) (k w : ℕ) where
+  -- "turning ambiguous included"
+  pub ambiguous-changes : (select es w ≡ ambiguous → ⊥) → select (without k es) w ≡ ambiguous → changes es k w ≡ true
+  ambiguous-changes fit e = isTrue (λ f. fit (sym (unchanged es k w .0 f) ∙ ap (movedChoice (formerly k)) e))
+
+  -- "renumbering not"
+  pub renumbering-not : (i : ℕ) → (i ≡ k → ⊥) → select es w ≡ names i → select (without k es) w ≡ names (lowered k i) → changes es k w ≡ false
+  renumbering-not i d e q = unchanged es k w .1 (rw (q, e) (ap names (formerly-lowered k i d)))
+
+-- a word that was not ambiguous changes its answer exactly when it selected the entry
+pub changes-exactly : (es : List Entry) (k : ℕ) → k < length es → (w : ℕ) → (select es w ≡ ambiguous → ⊥) → (changes es k w ≡ true) ↔ (select es w ≡ names k)
+changes-exactly es k h w fit = (
+  λ t. selects-names _ k (sym (changes-selects es k h w fit) ∙ t),
+  λ e. changes-selects es k h w fit ∙ names-selects _ k e,
+)
+
 -- so no other word of the width of an unambiguous table changes its answer
 pub bound : (t : Table) (k : ℕ) → k < length (t .entries) → ((w : ℕ) → w < 2 ^ (t .width) → Contested (t .entries) w → ⊥)
     → (w : ℕ) → w < 2 ^ (t .width) → (changes (t .entries) k w ≡ true) ↔ (select (t .entries) w ≡ names k)
 bound t k h clear w l = changes-exactly (t .entries) k h w (λ e. clear w l (ambiguous-exactly (t .entries) w .0 e))
 
--- ---- the count
+-- ---- the call
 
 -- a table that reads
 module _ (ws : List ℕ) (t : Table) (reads : readTable ws ≡ result t) (k : ℕ) (list : List ℕ) where
@@ -120,19 +129,13 @@ module _ (ws : List ℕ) (t : Table) (reads : readTable ws ≡ result t) (k : �
       λ u. counted ∙ at-first t k h list (u .0) (u .1) ∙ rw (u .2, lt-ltb _ _ (u .3)),
     )
 
-    -- no other number, and no fault
-    not-eleven : changedOf (readTable ws) k list ≡ refused 11 0 0 → ⊥
-    not-eleven q =
-        three t k h list
-        (λ f. not-refused (sym (counted ∙ all-fit t k h list f) ∙ q))
-        (λ i u l e. other-number (sym e ∙ sym counted ∙ q) (omega arith))
-        (λ i u l e. other-number (sym e ∙ sym counted ∙ q) (omega arith))
-
   -- "11 for no such entry", whatever the list is
   pub no-such-entry : (changedOf (readTable ws) k list ≡ refused 11 0 0) ↔ (length (t .entries) ≤ k)
   unfolding changedOf
   no-such-entry = (
-    λ q. cases (ltb k (length (t .entries))) (λ l. absurd (not-eleven (ltb-true _ _ l) q)) (λ l. ltb-false _ _ l),
+    λ q. cases (ltb k (length (t .entries)))
+        (λ l. let h = ltb-true _ _ l in absurd (six-or-seven t k h list 11 0 0 (sym (counted h) ∙ q) (omega arith) (omega arith)))
+        (λ l. ltb-false _ _ l),
     λ l. rw (reads, le-ltb k _ l),
   )
 
@@ -143,9 +146,7 @@ faulty-of (faulty a b) k list n p = (λ q. cc, λ q. cc)
 faulty-of (refused a b w) k list n p = (λ q. absurd (refused-not-faulty q), λ q. absurd (refused-not-faulty q))
 faulty-of (result t) k list n p = (
   λ q. cases (ltb k (length (t .entries)))
-      (λ l. let c : countedIn t k list ≡ faulty n p = rw l at q in
-      let h = ltb-true _ _ l in
-      absurd (three t k h list (λ f. not-faulty (sym (all-fit t k h list f) ∙ c)) (λ i u x e. refused-not-faulty (sym e ∙ c)) (λ i u x e. refused-not-faulty (sym e ∙ c))))
+      (λ l. absurd (no-fault t k (ltb-true _ _ l) list n p (rw l at q)))
       (λ l. absurd (refused-not-faulty (rw l at q))),
   λ q. absurd (not-faulty q),
 )

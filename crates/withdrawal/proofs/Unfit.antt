@@ -10,8 +10,9 @@ use lib.ListN.{length}
 use borrow.Author.Tests.{lt-ltb, ltb-true, ltb-false}
 use Rattle.words.specs.Tests.{howMany, first}
 use Rattle.words.specs.Words.{word}
-use Rattle.words.specs.Outcome.{result, refused}
+use Rattle.words.specs.Outcome.{result, faulty, refused}
 use Rattle.words.proofs.Logic.{cases, clash, isTrue, isFalse, or-l, or-i, or-e, not-f, not-if, options, first-some, first-none, first-least, first-no, first-found, howMany-same}
+use Rattle.words.proofs.Outcomes.{not-refused, not-faulty, refused-not-faulty, other-number}
 use Rattle.table.specs.Table.{Table}
 use Rattle.choice.specs.Rule.{ambiguous, selects, sameChoice}
 use Rattle.choice.proofs.Judging.{same-exactly}
@@ -78,3 +79,12 @@ module _ (t : Table) (k : ℕ) (h : k < length (t .entries)) (list : List ℕ) w
       cases (ltb (word list i) (2 ^ (t .width)))
       (λ l. six i u (ltb-true _ _ l, contested t (word list i) (first-some (unfitAt t list) (length list) i e .1) (ltb-true _ _ l)) (at-first i u ∙ rw l))
       (λ l. seven i u (ltb-false _ _ l) (at-first i u ∙ rw l)))
+
+  -- so it is no fault, and has no other number
+  pub no-fault : (n p : ℕ) → countedIn t k list ≡ faulty n p → ⊥
+  no-fault n p q =
+      three (λ f. not-faulty (sym (all-fit f) ∙ q)) (λ i u l e. refused-not-faulty (sym e ∙ q)) (λ i u l e. refused-not-faulty (sym e ∙ q))
+
+  pub six-or-seven : (n p w : ℕ) → countedIn t k list ≡ refused n p w → (6 ≡ n → ⊥) → (7 ≡ n → ⊥) → ⊥
+  six-or-seven n p w q d e =
+      three (λ f. not-refused (sym (all-fit f) ∙ q)) (λ i u l x. other-number (sym x ∙ q) d) (λ i u l x. other-number (sym x ∙ q) e)

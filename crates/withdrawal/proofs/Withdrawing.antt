@@ -9,9 +9,9 @@ use lib.Dec.{ltb}
 use lib.ListN.{length, getD, take, drop, length-append, length-take, length-drop, List·getD-append}
 use lib.Seq.{getD-append-add, getD-take, getD-drop, length-take-le}
 use borrow.Author.Tests.{ltb-true, ltb-false, le-ltb}
-use Rattle.words.proofs.Logic.{cases, clash, isTrue, isFalse, not-f, not-it, not-if}
-use Rattle.table.specs.Table.{Entry}
-use Rattle.choice.specs.Rule.{Choice, names, nothing, ambiguous, selects, sameChoice, movedChoice}
+use Rattle.words.proofs.Logic.{cases, clash, isTrue, not-f, not-if}
+use Rattle.table.specs.Table.{Entry, entryNumber}
+use Rattle.choice.specs.Rule.{Choice, names, nothing, ambiguous, selects, movedChoice}
 use Rattle.choice.proofs.Judging.{answers, selects-names, names-selects, same-exactly}
 use Rattle.selection.specs.Selection.{select}
 use Rattle.selection.proofs.Formula.{Selects, names-exactly, nothing-exactly}
@@ -72,20 +72,10 @@ never-own k ambiguous t = clash t refl
 
 -- ---- a word
 
-module _ (es : List Entry) (k w : ℕ) where
-  -- "turning ambiguous included"
-  pub ambiguous-changes : (select es w ≡ ambiguous → ⊥) → select (without k es) w ≡ ambiguous → changes es k w ≡ true
-  unfolding changes sameChoice
-  ambiguous-changes fit e = rw e (not-it (isFalse (λ a. fit (sym (same-exactly ambiguous (select es w) .0 a)))))
-
-  -- a word keeps its answer exactly when the two, in the old numbers, are the same
-  pub unchanged : (changes es k w ≡ false) ↔ (movedChoice (formerly k) (select (without k es) w) ≡ select es w)
-  unfolding changes
-  unchanged = (λ f. same-exactly _ _ .0 (not-f f), λ e. not-if (same-exactly _ _ .1 e))
-
-  -- "renumbering not"
-  pub renumbering-not : (i : ℕ) → (i ≡ k → ⊥) → select es w ≡ names i → select (without k es) w ≡ names (lowered k i) → changes es k w ≡ false
-  renumbering-not i d e q = unchanged .1 (rw (q, e) (ap names (formerly-lowered k i d)))
+-- a word keeps its answer exactly when the two, in the old numbers, are the same
+pub unchanged : (es : List Entry) (k w : ℕ) → (changes es k w ≡ false) ↔ (movedChoice (formerly k) (select (without k es) w) ≡ select es w)
+unfolding changes
+unchanged es k w = (λ f. same-exactly _ _ .0 (not-f f), λ e. not-if (same-exactly _ _ .1 e))
 
 module _ (es : List Entry) (k : ℕ) (h : k < length es) where
   pub length-without : length (without k es) + 1 ≡ length es
@@ -104,6 +94,13 @@ module _ (es : List Entry) (k : ℕ) (h : k < length es) where
             (λ a p. rw p (sym (cut-low es _ k h i a)))
             (λ a p. rw p (sym (cut-high es _ k h i a)));
       }
+
+  -- each other entry is there, renumbered
+  pub each-other : (i : ℕ) → i < length es → (i ≡ k → ⊥) → (lowered k i < length (without k es)) × (entryNumber (without k es) (lowered k i) ≡ entryNumber es i)
+  each-other i l d =
+      let n = length-without in
+      let m : lowered k i < length (without k es) = lowered-lt k i _ d (omega arith) (omega arith) in
+      (m, sym (within .each (lowered k i) m) ∙ ap (entryNumber es) (formerly-lowered k i d))
 
   module _ (w : ℕ) (fit : select es w ≡ ambiguous → ⊥) where
     pub others-stay : (select es w ≡ names k → ⊥) → select (without k es) w ≡ renumbered k (select es w)
