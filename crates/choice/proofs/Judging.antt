@@ -75,6 +75,15 @@ pub over : (entry : ℕ → Entry) (live : ℕ → Bool) (n i j : ℕ) → beats
 unfolding beatsAt givesWay
 over entry live n i j b h d l = or-e (every-at _ n b j h) (or-i (ne-eqb j i d) (not-if l))
 
+-- and the other way: where it is so of every other live one, the entry beats them all
+pub overs-beat : (entry : ℕ → Entry) (live : ℕ → Bool) (n i : ℕ)
+    → ((j : ℕ) → j < n → (j ≡ i → ⊥) → live j ≡ true → moreSpecific (entry i) (entry j) ≡ true) → beatsAt entry live n i ≡ true
+unfolding beatsAt givesWay
+overs-beat entry live n i o =
+    every-make _ n (λ j h. cases (eqb j i)
+    (λ t. or-il _ (or-il _ t))
+    (λ t. cases (live j) (λ l. or-ir _ (o j h (eqb-false j i t) l)) (λ l. or-il _ (or-ir _ (not-it l)))))
+
 -- entries and tests that agree below n are judged the same
 module _ (e f : ℕ → Entry) (s t l m : ℕ → Bool) (n : ℕ) (he : (j : ℕ) → j < n → e j ≡ f j) (hs : (j : ℕ) → j < n → s j ≡ t j) (hl : (j : ℕ) → j < n → l j ≡ m j) where
   beats-alike : (i : ℕ) → i < n → beatsAt e l n i ≡ beatsAt f m n i
@@ -91,29 +100,26 @@ unfolding judgeAt
 judged-lt entry sure live n i e = first-some (λ i. sure i and beatsAt entry live n i) n i (choice-names _ _ i e) .0
 
 module _ (es : List Entry) where
+  -- at most one of those that pass p is more specific than every other one that passes q, where all that pass p pass q
+  pub wins-one : (p q : Entry → Bool) → ((e : Entry) → p e ≡ true → q e ≡ true) → (i j : ℕ) → i < length es → j < length es
+      → p (entryNumber es i) and beats es q i ≡ true → p (entryNumber es j) and beats es q j ≡ true → j ≡ i
+  wins-one p q pq i j hi hj s t =
+      cases (eqb j i) (eqb-true j i)
+      (λ n. let d = eqb-false j i n in
+      absurd (not-mutual _ _
+      (over (entryNumber es) _ (length es) i j (and-r _ s) hj d (pq _ (and-l _ t)))
+      (over (entryNumber es) _ (length es) j i (and-r _ t) hi (λ e. d (sym e)) (pq _ (and-l _ s)))))
+
   module _ (p q r : Entry → Bool) (pr : (e : Entry) → p e ≡ true → r e ≡ true) (rq : (e : Entry) → r e ≡ true → q e ≡ true) where
     beats-fewer : (i : ℕ) → beats es q i ≡ true → beats es r i ≡ true
-    unfolding beatsAt givesWay
-    beats-fewer i b =
-        every-make _ (length es)
-        (λ j h. cases (eqb j i)
-        (λ t. or-il _ (or-il _ t))
-        (λ t. cases (r (entryNumber es j))
-        (λ k. or-ir _ (over (entryNumber es) (λ k. q (entryNumber es k)) (length es) i j b h (eqb-false j i t) (rq (entryNumber es j) k)))
-        (λ k. or-il _ (or-ir _ (not-it k)))))
-
-    only : (i j : ℕ) → i < length es → j < length es → r (entryNumber es i) and beats es r i ≡ true → r (entryNumber es j) and beats es r j ≡ true → j ≡ i
-    only i j hi hj s t =
-        cases (eqb j i) (eqb-true j i)
-        (λ n. let d = eqb-false j i n in
-        absurd (not-mutual _ _ (over (entryNumber es) _ (length es) i j (and-r _ s) hj d (and-l _ t)) (over (entryNumber es) _ (length es) j i (and-r _ t) hi (λ e. d (sym e)) (and-l _ s))))
+    beats-fewer i b = overs-beat (entryNumber es) _ (length es) i (λ j h d k. over (entryNumber es) _ (length es) i j b h d (rq (entryNumber es j) k))
 
     pub judge-names : (i : ℕ) → judge es p q ≡ names i → judge es r r ≡ names i
     unfolding judge judgeAt
     judge-names i e =
         let s = first-some (λ i. p (entryNumber es i) and beats es q i) (length es) i (choice-names _ _ i e) in
         let t : r (entryNumber es i) and beats es r i ≡ true = and-i (pr (entryNumber es i) (and-l _ (s .1))) (beats-fewer i (and-r _ (s .1))) in
-        rw (first-only (λ i. r (entryNumber es i) and beats es r i) (length es) i (s .0) t (λ j h k. only i j (s .0) h t k))
+        rw (first-only (λ i. r (entryNumber es i) and beats es r i) (length es) i (s .0) t (λ j h k. wins-one r r (λ e l. l) i j (s .0) h t k))
 
     pub judge-nothing : judge es p q ≡ nothing → judge es r r ≡ nothing
     unfolding judge judgeAt

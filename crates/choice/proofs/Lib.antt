@@ -1,3 +1,4 @@
 pub mod Judging
+pub mod Within
 pub mod Leading
 pub mod Placed

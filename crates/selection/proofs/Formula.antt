@@ -7,13 +7,13 @@ use mathlib.Core.Bool.{Bool, true, false}
 use Prim.Native.Nat.{ℕ, _<_}
 use lib.Dec.{eqb}
 use lib.ListN.{length}
-use borrow.Author.Tests.{eqb-true, eqb-false, ne-eqb}
+use borrow.Author.Tests.{eqb-true, eqb-false}
 use Rattle.words.specs.Tests.{_and_, exists, first}
-use Rattle.words.proofs.Logic.{cases, clash, isFalse, and-l, and-r, and-i, or-i, or-il, or-ir, or-e, not-it, not-if, every-at, every-make, exists-at, exists-make, exists-none, exists-no, first-some, first-none, first-only, first-no}
+use Rattle.words.proofs.Logic.{cases, clash, isFalse, and-l, and-r, and-i, exists-at, exists-make, exists-none, exists-no, first-some, first-none, first-only, first-no}
 use Rattle.table.specs.Table.{Entry, entryNumber}
-use Rattle.choice.specs.Rule.{names, nothing, ambiguous, moreSpecific, beats, judge, judgeAt, beatsAt, givesWay}
+use Rattle.choice.specs.Rule.{names, nothing, ambiguous, moreSpecific, beats, judge, judgeAt}
 use Rattle.selection.specs.Selection.{claims, select}
-use Rattle.choice.proofs.Judging.{not-mutual, choice-names, choice-nothing, choice-ambiguous}
+use Rattle.choice.proofs.Judging.{not-mutual, choice-names, choice-nothing, choice-ambiguous, over, overs-beat}
 
 -- entry i claims the word, and is more specific than every other entry that claims it
 pub record Selects (es : List Entry) (w i : ℕ) : Type 0 where
@@ -41,21 +41,11 @@ module _ (es : List Entry) (w : ℕ) where
 
   -- the test and the formula
   wins-selects : (i : ℕ) → i < length es → wins i ≡ true → Selects es w i
-  unfolding beatsAt givesWay
   wins-selects i h t =
-      record {
-        entry = h;
-        here = and-l _ t;
-        over = λ j k d c. or-e (every-at _ (length es) (and-r _ t) j k) (or-i (ne-eqb j i d) (not-if c));
-      }
+      record { entry = h; here = and-l _ t; over = λ j k d c. over (entryNumber es) claimed (length es) i j (and-r _ t) k d c }
 
   selects-wins : (i : ℕ) → Selects es w i → wins i ≡ true
-  unfolding beatsAt givesWay
-  selects-wins i s =
-      and-i (s .here)
-      (every-make _ (length es) (λ j k. cases (eqb j i)
-      (λ a. or-il _ (or-il _ a))
-      (λ a. cases (claims w (entryNumber es j)) (λ b. or-ir _ (s .over j k (eqb-false j i a) b)) (λ b. or-il _ (or-ir _ (not-it b))))))
+  selects-wins i s = and-i (s .here) (overs-beat (entryNumber es) claimed (length es) i (s .over))
 
   -- at most one entry is selected
   pub selects-one : (i j : ℕ) → Selects es w i → Selects es w j → j ≡ i

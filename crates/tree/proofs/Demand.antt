@@ -14,13 +14,13 @@ use mathlib.Core.Option.{Option, none, some}
 use Prim.Native.Nat.{ℕ, _+_, _^_, _≤_, _<_}
 use native.Mathlib.Omega.{arith}
 use borrow.Author.Tests.{leb-true}
-use lib.ListN.{length, take, drop}
-use lib.Seq.{take-at}
+use lib.ListN.{length, take, drop, replicate, List·getD-append}
+use lib.Seq.{take-at, drop-at}
 use Rattle.words.specs.Tests.{distinct}
 use Rattle.words.specs.Words.{word}
 use Rattle.words.proofs.Logic.{and-r, options}
 use Rattle.words.proofs.Outcomes.{not-refused}
-use Rattle.words.specs.Outcome.{result, refused}
+use Rattle.words.specs.Outcome.{Outcome, result, faulty, refused}
 use Rattle.table.specs.Table.{Entry, Table, countOf, tableOf}
 use Rattle.table.specs.Check.{fine, tableCheck, readTable}
 use Rattle.table.specs.Lawful.{goodTable}
@@ -195,19 +195,43 @@ module _ (ws out : List ℕ) (t : Table) (reads : readTable ws ≡ result t) whe
     pub judgement : Clear (fits grown (length out)) (conflict start grown) (lowestUnreached (t .entries) (t .width)) × (size grown + 1 ≡ n)
     judgement = judged-result _ _ _ (size grown + 1) n (sym (answered ws t reads (length out)) ∙ generated)
 
+    -- it has as many words as were answered, and fits in 16 bits
+    pub flat-length : length flat ≡ n
+    unfolding written
+    flat-length = omega (arith, length-nodes grown 1, judgement .1)
+
+    pub flat-small : size grown + 1 < 65536
+    unfolding fits
+    flat-small = omega (arith, leb-true (size grown + 1) 16384 (and-r _ (judgement .0 .fits)))
+
     -- "The tree written is as many words, from the buffer's start, as generating returns"
     pub buffer-is : bufferOf (readTable ws) out ≡ flat ++ drop (length flat) out
     unfolding bufferOf leftBy
     buffer-is = let g : generateOf (result t) (length out) ≡ result n = rw reads at generated in rw (reads, g)
 
     pub words-are : take n (bufferOf (readTable ws) out) ≡ flat ++ []
-    unfolding written
-    words-are =
-        ap (take n) buffer-is ∙ take-at flat (drop (length flat) out) n (omega (arith, length-nodes grown 1, judgement .1)) ∙ sym (append-nil flat)
+    words-are = ap (take n) buffer-is ∙ take-at flat (drop (length flat) out) n flat-length ∙ sym (append-nil flat)
+
+    pub word-is : (i : ℕ) → i < n → word (bufferOf (readTable ws) out) i ≡ word flat i
+    word-is i h = ap (λ (x : List ℕ). word x i) buffer-is ∙ List·getD-append flat (drop (length flat) out) 0 i (rw flat-length h)
+
+    -- "words after the tree are unchanged"
+    pub after-is : drop n (bufferOf (readTable ws) out) ≡ drop n out
+    after-is = ap (drop n) buffer-is ∙ drop-at flat (drop (length flat) out) n flat-length ∙ ap (λ (k : ℕ). drop k out) flat-length
 
     written-right : (rest : List ℕ) (w : ℕ) → w < 2 ^ (t .width) → Right (t .entries) (t .width) (size grown) (flat ++ rest) w
-    unfolding fits
-    written-right = walks-right (judgement .0 .clean) (omega (arith, leb-true (size grown + 1) 16384 (and-r _ (judgement .0 .fits))))
+    written-right = walks-right (judgement .0 .clean) (omega (arith, flat-small))
+
+  -- a refusal leaves the "tree buffer all zero"
+  left-zero : (r : Outcome ℕ) → ((n : ℕ) → r ≡ result n → ⊥) → leftBy t r out ≡ replicate (length out) 0
+  unfolding leftBy
+  left-zero (result n) h = absurd (h n refl)
+  left-zero (faulty n p) h = refl
+  left-zero (refused n p w) h = refl
+
+  pub refused-zero : ((n : ℕ) → generateOf (readTable ws) (length out) ≡ result n → ⊥) → bufferOf (readTable ws) out ≡ replicate (length out) 0
+  unfolding bufferOf
+  refused-zero h = rw reads (left-zero (generateOf (result t) (length out)) (λ n q. h n (rw reads q)))
 
 -- ---- demand 3: a table that reads without fault, and a buffer
 

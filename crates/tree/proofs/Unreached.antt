@@ -7,22 +7,23 @@
 --     sized-lowest     the same of sizing
 --     walks-asked     the third demand, of every table that is refused neither by 6 nor by 19
 use Prim.Native.Nat.{ℕ, _^_, _<_}
-use mathlib.Core.Path.{_≡_}
+use mathlib.Core.Path.{_≡_, sym, _∙_}
 use mathlib.Core.Bool.{true}
 use mathlib.Core.Logic.{_↔_}
 use mathlib.Core.List.{List}
 use lib.ListN.{length, take, replicate}
 use Rattle.words.specs.Outcome.{result, refused}
 use Rattle.words.proofs.Logic.{options}
+use Rattle.words.proofs.Outcomes.{not-refused}
 use Rattle.table.specs.Table.{Table}
 use Rattle.table.specs.Check.{readTable}
 use Rattle.selection.proofs.Formula.{Contested, ambiguous-exactly}
 use Rattle.tree.specs.Tree.{tree, size}
 use Rattle.tree.specs.Reach.{lowestUnreached}
-use Rattle.tree.specs.Generate.{fits, judged, generateOf, leftBy, bufferOf, measureOf}
+use Rattle.tree.specs.Generate.{fits, judged, generateOf, bufferOf, measureOf}
 use Rattle.tree.proofs.Theorem.{tree-sound}
 use Rattle.tree.proofs.Reach.{Reached, Lowest, none-exactly, lowest-exactly}
-use Rattle.tree.proofs.Demand.{Right, read-sane, clear-judged, nineteen-judged, neither-generated, walk-right}
+use Rattle.tree.proofs.Demand.{Right, read-sane, clear-judged, nineteen-judged, neither-generated, refused-zero, walk-right}
 use Rattle.tree.proofs.Sizing.{refused-alike}
 
 -- a table that reads, and a buffer of so many words
@@ -68,8 +69,7 @@ walks-asked ws out t reads f six nineteen =
 -- "the tree buffer is all zero"
 pub all-zero : (ws out : List ℕ) (t : Table) → readTable ws ≡ result t → (e : ℕ) → generateOf (readTable ws) (length out) ≡ refused 19 e 0
     → bufferOf (readTable ws) out ≡ replicate (length out) 0
-unfolding bufferOf leftBy
-all-zero ws out t reads e lost = let g : generateOf (result t) (length out) ≡ refused 19 e 0 = rw reads at lost in rw (reads, g)
+all-zero ws out t reads e lost = refused-zero ws out t reads (λ n q. not-refused (sym q ∙ lost))
 
 -- "Generating and sizing now refuse such a table": sizing as generating into 16,384 words is
 module _ (ws : List ℕ) (t : Table) (reads : readTable ws ≡ result t) (f : fits (tree (t .entries) (t .width)) 16384 ≡ true)

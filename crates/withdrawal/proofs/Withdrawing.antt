@@ -13,9 +13,10 @@ use Rattle.words.proofs.Logic.{cases, clash, isTrue, not-f, not-if}
 use Rattle.table.specs.Table.{Entry, entryNumber}
 use Rattle.choice.specs.Rule.{Choice, names, nothing, ambiguous, selects, movedChoice}
 use Rattle.choice.proofs.Judging.{answers, selects-names, names-selects, same-exactly}
+use Rattle.choice.proofs.Within.{Within}
 use Rattle.selection.specs.Selection.{select}
 use Rattle.selection.proofs.Formula.{Selects, names-exactly, nothing-exactly}
-use Rattle.selection.proofs.Within.{Within, selects-back, unclaimed-back}
+use Rattle.selection.proofs.Within.{selects-back, unclaimed-back}
 use Rattle.withdrawal.specs.Withdrawn.{without, lowered, formerly, renumbered, changes}
 
 -- ---- the numbers

@@ -1,15 +1,15 @@
 -- Tests as facts, and the laws of the tests over lists and over the numbers below a bound. Assumes nothing.
 use native.Mathlib.Numerals.{sub-one}
-use Prim.Native.Nat.{ℕ, zero, suc, _≤_, _<_, _+_, _-_, zero-le, suc-le-suc}
+use Prim.Native.Nat.{ℕ, zero, suc, _≤_, _<_, _-_, zero-le, suc-le-suc}
 use native.Mathlib.Nat.{not-suc-le-zero, le-refl, le-suc, le-trans, le-of-suc-le-suc, eq-or-lt-of-le, le-of-eq}
 use native.Mathlib.Omega.{arith}
-use mathlib.Core.Path.{_≡_, refl, sym, ap, ap₂, _∙_, subst}
+use mathlib.Core.Path.{_≡_, refl, sym, ap, ap₂, _∙_}
 use mathlib.Core.Logic.{_⊎_, inl, inr}
 use mathlib.Core.Bool.{Bool, true, false, not, cond, true≢false, false≢true}
 use mathlib.Core.List.{List, [], _∷_}
 use mathlib.Core.Option.{Option, none, some}
 use lib.Dec.{leb, eqb}
-use borrow.Author.Tests.{leb-true, leb-false, eqb-true, eqb-false, eq-eqb, ne-eqb}
+use borrow.Author.Tests.{leb-true, leb-false, eq-eqb, ne-eqb}
 use Rattle.words.specs.Tests.{_and_, _or_, allOf, anyOf, every, exists, howMany, first, best, orHere}
 
 -- by cases on a test
@@ -284,6 +284,37 @@ pub howMany-le : (p : ℕ → Bool) (n : ℕ) → howMany p n ≤ n
 unfolding howMany
 howMany-le p zero = zero-le
 howMany-le p (suc n) = cases (p n) (λ k. rw k (suc-le-suc (howMany-le p n))) (λ k. rw k (le-trans (howMany-le p n) (le-suc n)))
+
+-- all that pass but i
+unfoldable but : (ℕ → Bool) → ℕ → ℕ → Bool
+but q i j = not (eqb j i) and q j
+
+but-own : (q : ℕ → Bool) (i : ℕ) → but q i i ≡ false
+unfolding but _and_
+but-own q i = rw (eq-eqb i i refl)
+
+but-other : (q : ℕ → Bool) (i j : ℕ) → ¬ (j ≡ i) → but q i j ≡ q j
+unfolding but _and_
+but-other q i j d = rw (ne-eqb j i d)
+
+-- at least as many pass where those that pass are mapped, no two to one, to such as pass
+pub howMany-into : (p q : ℕ → Bool) (to : ℕ → ℕ) (n m : ℕ) → ((i : ℕ) → i < n → to i < m) → ((i j : ℕ) → i < n → j < n → to i ≡ to j → i ≡ j)
+    → ((i : ℕ) → i < n → p i ≡ true → q (to i) ≡ true) → howMany p n ≤ howMany q m
+unfolding howMany
+howMany-into p q to zero m inside once passes = zero-le
+howMany-into p q to (suc n) m inside once passes =
+    let up : (i : ℕ) → i < n → i < suc n = λ i h. le-trans h (le-suc n) in
+    let top : n < suc n = le-refl (suc n) in
+    let apart : (i : ℕ) → i < n → ¬ (to i ≡ to n) = λ i h e. let k : i ≡ n = once i n (up i h) top e in omega arith in
+    let rest : (r : ℕ → Bool) → ((i : ℕ) → i < n → p i ≡ true → r (to i) ≡ true) → howMany p n ≤ howMany r m
+    = λ r s. howMany-into p r to n m (λ i h. inside i (up i h)) (λ i j h g e. once i j (up i h) (up j g) e) s in
+    cases (p n)
+    (λ t. rw t (omega (
+      arith,
+      howMany-less q (but q (to n)) m (to n) (inside n top) (passes n top t) (but-own q (to n)) (λ j d. but-other q (to n) j d),
+      rest (but q (to n)) (λ i h s. rw (but-other q (to n) (to i) (apart i h)) (passes i (up i h) s)),
+    )))
+    (λ t. rw t (rest q (λ i h s. passes i (up i h) s)))
 
 -- a number that fails is enough
 pub every-not : (p : ℕ → Bool) (n i : ℕ) → i < n → p i ≡ false → every p n ≡ false

@@ -1,0 +1,115 @@
+-- Document 02, No. 12, sentence by sentence, over the definitions that the calls' contracts cite. Assumes nothing.
+--   `maker::generate` answers `generateOf (readTable ws) (length out)` and leaves `bufferOf (readTable ws) out`; `maker::measure` answers
+--   `measureOf (readTable ws)`; `selection::find` answers `lookOf (readTable ws) w`.
+--     permuted (Permutations.antt)     every permutation of a list of entries is an order of it
+--     generated-alike, sized-alike     refused alike for 5, for 6 with the word, and for 19; else the same answer
+--     word-moved, others-same, leaf-names     the words of the two trees
+--     after-trees, refused-same     what stands after the trees, and what a refusal leaves
+--     lookup-moved, reached-exactly     what each word selects, and who is reached
+use Prim.Native.Nat.{ℕ, _+_, _<_}
+use native.Mathlib.Omega.{arith}
+use mathlib.Core.Path.{_≡_, sym, ap, ap₂, _∙_}
+use mathlib.Core.Logic.{_↔_}
+use mathlib.Core.List.{List}
+use lib.ListN.{length, drop, replicate, List·getD-map}
+use Rattle.words.specs.Words.{word, part}
+use Rattle.words.specs.Outcome.{result}
+use Rattle.table.specs.Table.{Table, entryNumber, kindOf}
+use Rattle.table.specs.Check.{readTable}
+use Rattle.choice.specs.Rule.{names}
+use Rattle.selection.specs.Lookup.{lookOf}
+use Rattle.operands.specs.Calls.{decodeOf, encodeOf}
+use Rattle.tree.specs.Tree.{tree, size}
+use Rattle.tree.specs.Written.{leafWord, written}
+use Rattle.tree.specs.Generate.{measured, generateOf, bufferOf, surveyOf, measureOf}
+use Rattle.tree.proofs.Demand.{read-sane, judgement, flat-small, word-is, after-is, refused-zero}
+use Rattle.tree.proofs.Reach.{Reached}
+use Rattle.shuffle.specs.Shuffled.{Shuffled}
+use Rattle.shuffle.specs.Moved.{movedWord, movedAnswer, movedDecoded, Alike}
+use Rattle.shuffle.proofs.Permutations.{turned}
+use Rattle.shuffle.proofs.Answering.{look-shuffled, decode-shuffled, encode-shuffled}
+use Rattle.shuffle.proofs.Moving.{size-moved, depth-moved, stays, leaf-moved}
+use Rattle.shuffle.proofs.Shuffling.{reached-moved}
+use Rattle.shuffle.proofs.Generating.{written-shuffled, names-entry, judged-shuffled}
+
+-- ---- two tables that read, of one width, the entries of the second in another order
+
+module _ (ws vs : List ℕ) (t u : Table) (reads : readTable ws ≡ result t) (also : readTable vs ≡ result u) (wide : u .width ≡ t .width)
+    (s : Shuffled (t .entries) (u .entries)) where
+  -- lookup answers the moved entry
+  pub lookup-moved : (w : ℕ) → lookOf (readTable vs) w ≡ movedAnswer (s .to) (lookOf (readTable ws) w)
+  lookup-moved w = rw (reads, also) (look-shuffled t u wide s w)
+
+  -- decoding answers it with the same values, and encoding it gives the same
+  pub decode-moved : (w room : ℕ) → decodeOf (readTable vs) w room ≡ movedDecoded (s .to) (decodeOf (readTable ws) w room)
+  decode-moved w room = rw (reads, also) (decode-shuffled t u wide s w room)
+
+  pub encode-moved : (e : ℕ) → e < length (t .entries) → (values : List ℕ) → encodeOf (readTable vs) (s .to e) values ≡ encodeOf (readTable ws) e values
+  encode-moved e h values = rw (reads, also) (encode-shuffled t u s e h values)
+
+  -- "some entry is selected by no word of the width" in the one table exactly when the moved one is in the other
+  pub reached-exactly : (e : ℕ) → e < length (t .entries) → (Reached (t .entries) (t .width) e) ↔ (Reached (u .entries) (u .width) (s .to e))
+  reached-exactly e h = (
+    λ r. rw wide (reached-moved (t .entries) (u .entries) s (t .width) e r),
+    λ r. rw (s .from-to e h) at (reached-moved (u .entries) (t .entries) (turned s) (t .width) (s .to e) (rw wide at r)),
+  )
+
+  -- sizing is refused alike, and else has the same numbers
+  pub sized-alike : Alike (measureOf (readTable ws)) (measureOf (readTable vs))
+  unfolding measureOf surveyOf
+  sized-alike =
+      rw (reads, also)
+      (judged-shuffled t u wide s 16384 measured (λ g. ap₂ (λ (n d : ℕ). record { nodes = n; tests = d }) (size-moved (s .to) g) (depth-moved (s .to) g)))
+
+  -- ---- "generating into equally long buffers"
+
+  module _ (out into : List ℕ) (long : length into ≡ length out) where
+    -- "is refused alike for 5, 6 and the word"; "For 19 the two tables are refused alike"; else it returns the same length
+    pub generated-alike : Alike (generateOf (readTable ws) (length out)) (generateOf (readTable vs) (length into))
+    unfolding generateOf
+    generated-alike = rw (reads, also, long) (judged-shuffled t u wide s (length out) (λ g. size g + 1) (λ g. ap (λ (n : ℕ). n + 1) (size-moved (s .to) g)))
+
+    -- a refusal leaves both buffers the same: all zero
+    pub refused-same : ((n : ℕ) → generateOf (readTable ws) (length out) ≡ result n → ⊥) → bufferOf (readTable vs) into ≡ bufferOf (readTable ws) out
+    refused-same h =
+        refused-zero vs into u also (λ n q. h n (generated-alike .answer n .1 q)) ∙ ap (λ (n : ℕ). replicate n 0) long ∙ sym (refused-zero ws out t reads h)
+
+    module _ (n : ℕ) (generated : generateOf (readTable ws) (length out) ≡ result n) where
+      -- then the second is generated too, of the same length; what stands after the trees is unchanged
+      again : generateOf (readTable vs) (length into) ≡ result n
+      again = generated-alike .answer n .0 generated
+
+      pub after-trees : (drop n (bufferOf (readTable ws) out) ≡ drop n out) × (drop n (bufferOf (readTable vs) into) ≡ drop n into)
+      after-trees = (after-is ws out t reads n generated, after-is vs into u also n again)
+
+      -- "at the same indices"
+      module _ (i : ℕ) (h : i < n) where
+        abbrev here : ℕ
+        here = word (bufferOf (readTable ws) out) i
+
+        abbrev there : ℕ
+        there = word (bufferOf (readTable vs) into) i
+
+        -- each word of the second tree is the first's, with the entry moved where it names one
+        pub word-moved : there ≡ movedWord (s .to) here
+        unfolding movedWord part
+        word-moved =
+            word-is vs into u also n again i h
+            ∙ ap (λ (x : List ℕ). word x i) (written-shuffled t u wide s (read-sane ws t reads) (flat-small ws out t reads n generated))
+            ∙ List·getD-map (movedWord (s .to)) (written (t .width) (tree (t .entries) (t .width))) i 0
+            ∙ ap (movedWord (s .to)) (sym (word-is ws out t reads n generated i h))
+
+        -- "the trees have the same tests and nothings"
+        pub others-same : (kindOf here ≡ 9 → ⊥) → there ≡ here
+        others-same d = word-moved ∙ stays (s .to) here d
+
+        -- "and each leaf names the moved entry"
+        pub leaf-names : kindOf here ≡ 9
+            → (e : ℕ) × (e < length (t .entries)) × (here ≡ leafWord (names e)) × (there ≡ leafWord (names (s .to e)))
+            × (entryNumber (u .entries) (s .to e) ≡ entryNumber (t .entries) e)
+        leaf-names k =
+            let sane = read-sane ws t reads in
+            let at-i = word-is ws out t reads n generated i h in
+            let (e, l, q) = names-entry t u wide s sane (flat-small ws out t reads n generated) i (omega (arith, judgement ws out t reads n generated .1)) (ap kindOf (sym at-i) ∙ k) in
+            let few : e < 256 = omega (arith, sane .short) in
+            (e, l, at-i ∙ q, word-moved ∙ ap (movedWord (s .to)) (at-i ∙ q) ∙ sym (leaf-moved (s .to) (names e) (λ d p. let z : e ≡ d = cc in rw z at few)), s .each e l)
