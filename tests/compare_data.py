@@ -2,8 +2,9 @@
 probe selects is what the second implementation selects and what a decoder in decoders/ names, and its cycles are the list's. The twin
 of a table, which is of the other kind, has the same tree and selects the same; without forms it has the same tree. Its forms are those
 written here, and operands of known words come out as known numbers and texts. With two instructions more that cover an old one it has
-no tree. If an instruction is withdrawn, the words change that the decoder names so. A table that somebody adds to data/, with a list or
-without, has no such decoder, and is compared with the second implementation alone.
+no tree. If an instruction is withdrawn, the words change that the decoder names so. With its instructions in another order it has the same
+tree but for the numbers in the leaves, and a word selects the instruction that the decoder names. A table that somebody adds to data/, with
+a list or without, has no such decoder, and is compared with the second implementation alone.
 
 Usage: compare_data.py [path of probe [path of mktree]]. Exits with status 1 at the first difference.
 """
@@ -30,12 +31,12 @@ import decoders.buoy
 import decoders.riscv
 import make
 from patterns import POINT, SIGNED, Form, field_words, fields_of, listed, mask_and_value, table_bytes, table_words
-from second import examples
+from second import examples, shuffles
 from second.lines import line_of, mktree_text, read_line
 from second.reader import Refusal, read
 from second.selection import AMBIGUOUS, NOTHING, select
 from second.tree import nodes_once
-from second.twins import Twins, cycles_of
+from second.twins import Twins, cycles_of, heads_in
 
 SEED = 9
 TWINS = Twins(902)
@@ -43,6 +44,7 @@ MASK_SEED = 901                 # words that agree on a mask; the other draws do
 FORM_SEED = 903                 # forms that are added
 COVER_SEED = 904                # instructions that are covered
 WITHDRAWAL_SEED = 905           # instructions that are withdrawn
+SHUFFLE_SEED = 906              # orders of instructions
 DECODERS = {"avr": decoders.avr, "riscv": decoders.riscv, "a32": decoders.a32, "buoy": decoders.buoy}
 RANDOM_WORDS = 5400
 WORDS_AT_LEAST_EACH = 30        # words made of each entry, and as many neighbours
@@ -52,6 +54,9 @@ WORDS_FOR_ALTERED = 40
 COVERED = 3                     # instructions of each set that are covered
 WITHDRAWN = 12                  # instructions of each set that are withdrawn
 WORDS_FOR_WITHDRAWN = 40
+DRAWN_ORDERS = 2                # of each set, beside the one from its last instruction to its first
+WORDS_FOR_SHUFFLED = 300        # looked up in each order
+LABEL_BITS = 0x0FFF0000         # in the head of an entry
 ADDED_WORDS = 200               # looked up in a table that somebody added
 TWIN_EACH = 5                   # every so many-th word is looked up in the twin too
 
@@ -524,6 +529,58 @@ def compare_withdrawn(path, rng, one, tally):
     twinned.compare(path, TWINS, [(one.name, *answered) for answered in zip(questions, lines)], tally)
 
 
+# ---------------------------------------------------------------------------- instructions in another order
+
+def without_labels(words):
+    heads = set(heads_in(words))
+    return [word & ~LABEL_BITS if index in heads else word for index, word in enumerate(words)]
+
+
+def shuffled(one, to):
+    """The set with its instructions in another order, and the reordered table. The list in that order must make the same words, but for
+    labels, which it numbers anew."""
+    instructions = tuple(one.set.instructions[entry] for entry in shuffles.from_of(to))
+    other = Ready(one.name, replace(one.set, instructions=instructions), shuffles.reordered(one.words, to), None)
+    if without_labels(other.words) != without_labels(table_words(other.set)):
+        stop(f"{one.name}: in the order {to} the list makes other words")
+    return other
+
+
+def compare_shuffled_tree(path, mktree_path, rng, one, other, to, tree, tally):
+    """By probe from buffers with three words more than the tree has, and by mktree."""
+    questions = [("generate", words, [rng.getrandbits(32) for _ in range(len(tree) + 3)]) for words in (one.words, other.words)]
+    line, seen = probe.ask(path, questions)
+    probe.stop_at_difference(f"{one.name} in another order", questions[1], shuffles.moved_line(line, to, questions[1][2]), seen)
+    data, text = probe.pack(other.words), "".join(f"{index} {word:08x}\n" for index, word in enumerate(tree))
+    mktree.stop_at_difference(f"{one.name} in another order", data, shuffles.moved_text(text, to), mktree.text_of(mktree_path, data))
+    tally["shuffled leaves"] += sum(word >> 28 == 9 and to[word & 0xFF] != word & 0xFF for word in tree)
+
+
+def compare_shuffled_words(path, one, other, to, asked, tally):
+    """What the reordered table selects is the entry that the table selects, moved, and has the name that the decoder gives."""
+    lines = zip(lookups(path, one.words, asked), lookups(path, other.words, asked), strict=True)
+    for word, (line, seen) in zip(asked, lines, strict=True):
+        probe.stop_at_difference(f"{one.name} in another order", ("lookup", other.words, word), shuffles.moved_line(line, to), seen)
+        answer = seen.split(" ")[4]
+        name = other.mnemonic(NOTHING if answer == NOTHING else int(answer))
+        if name != decoded_name(one.name, word):
+            stop(f"{one.name} in the order {to}, {word:08x}: the table says {name}, the decoder {decoded_name(one.name, word)}")
+        tally["shuffled words"] += 1
+        tally["shuffled words with another number"] += line != seen
+
+
+def compare_shuffled(path, mktree_path, rng, one, tree, tally):
+    """"Reordering the entries of a table that reads without fault must change no more than entry numbers" (document 02's No. 12)."""
+    instructions, count = one.set.instructions, len(one.set.instructions)
+    for to in (shuffles.backwards(count), *(shuffles.drawn(rng, count) for _ in range(DRAWN_ORDERS))):
+        other = shuffled(one, to)
+        compare_shuffled_tree(path, mktree_path, rng, one, other, to, tree, tally)
+        made = [made_word(rng, rng.choice(instructions), one.set.width) for _ in range(WORDS_FOR_SHUFFLED)]
+        asked = [word ^ rng.choice([0, 0, 1 << rng.randrange(one.set.width)]) for word in made]
+        compare_shuffled_words(path, one, other, to, asked, tally)
+        tally["orders"] += 1
+
+
 # ---------------------------------------------------------------------------- tables that somebody added
 
 def added(folder):
@@ -573,7 +630,8 @@ def least(sets):
     needed |= {"words that agree": 60, "cycles": 2 * sum(len(one.set.instructions) for one in sets), "cycles, not 0": 400,
                "twins": 4 * len(sets) + 1, "twins by the second": 2, "without forms": len(sets), "forms": 36, "operands": 45,
                "operands below zero": 25, "altered forms": 160, "altered forms of operands": 60, "forms in lists": 16,
-               "covered": COVERED * len(sets), "withdrawn": WITHDRAWN * len(sets)}
+               "covered": COVERED * len(sets), "withdrawn": WITHDRAWN * len(sets), "orders": (1 + DRAWN_ORDERS) * len(sets)}
+    needed |= {"shuffled leaves": 12000, "shuffled words": 3600, "shuffled words with another number": 3000}
     for one in sets:
         needed |= {f"{one.name}, twin": 20000 // TWIN_EACH}
         needed |= {one.name: 20000, f"{one.name}, made": 7000, f"{one.name}, neighbours": 7000}
@@ -601,6 +659,7 @@ def main():
         notice_forms(path, random.Random(FORM_SEED), one, tally)
         compare_covered(path, mktree_path, random.Random(COVER_SEED), one, tally)
         compare_withdrawn(path, random.Random(WITHDRAWAL_SEED), one, tally)
+        compare_shuffled(path, mktree_path, random.Random(SHUFFLE_SEED), one, tree, tally)
         if one.name == "avr":
             compare_listing(path, one, tree, tally)
     try_lists(tally)
@@ -614,7 +673,9 @@ def main():
           f"{tally['known']} known words and {tally['words that agree']} that agree on a mask, "
           f"{tally['listed']} items listed, {tally['altered']} altered sets noticed; {tally['cycles']} cycles; {tally['forms']} forms, "
           f"{tally['operands']} operands known by number and text, {tally['altered forms']} altered forms noticed; "
-          f"{tally['covered']} sets with a covered instruction refused with 19; {tally['withdrawn']} instructions withdrawn; of the twins "
+          f"{tally['covered']} sets with a covered instruction refused with 19; {tally['withdrawn']} instructions withdrawn; "
+          f"{tally['orders']} orders of the sets, {tally['shuffled leaves']} leaves with another number, {tally['shuffled words']} words "
+          f"named by the decoder; of the twins "
           f"{in_twins} words and {tally['twins']} other questions; "
           f"{tally['added']} tables added by others")
 

@@ -138,7 +138,7 @@ def check_theorems():
     named = [(path, name) for path, names in lists for name in re.findall(r"`([\w-]+)`", names)]
     for path, name in named:
         text = (ROOT / "crates" / path).read_text(encoding="utf-8")
-        if not re.search(rf"^ *pub (record )?{name}\b", text, re.MULTILINE):
+        if not re.search(rf"^ *(unfoldable )?pub (record )?{name}\b", text, re.MULTILINE):
             sys.exit(f"docs/TRUSTED.md: {path} has no {name}")
     return len(named)
 

@@ -18,20 +18,21 @@ generating must give a tree, 6, or 19 and for which entry. It is sized: refused 
 fewer than words, and with the greatest count of these walks. Each entry is withdrawn, and one that isn't there, with all words that
 are not ambiguous, and the first with all words and two that are too high; probe's own lookups say how many words change, or which one is
 unfit. Tables without conditions are also checked with all trees of one and three nodes (two entries: a part of them but for the long
-form). The same is asked of a twin of each table, which has cycles. At the end mistakes are put into the second implementation one by
-one, and each must give another line somewhere.
+form). The same is asked of a twin of each table, which has cycles. With its entries in any other order a table is one of the family too
+(but for the long form's last ones); what probe says of it must follow from what it says of the table and from the order alone. At the end
+mistakes are put into the second implementation one by one, and each must give another line somewhere.
 """
 
 import itertools
 import random
 import sys
-from collections import Counter
+from collections import Counter, defaultdict
 
 import masks
 import probe
 import twinned
-from second import checker, measure, reach, selection, tree, walk, withdrawal, wrong_cycles, wrong_masks, wrong_reach, wrong_sizes, \
-    wrong_withdrawal
+from second import checker, measure, reach, selection, shuffles, tree, walk, withdrawal, wrong_cycles, wrong_masks, wrong_reach, \
+    wrong_sizes, wrong_withdrawal
 from second.lines import count_line, line_of
 from second.reader import Refusal
 from second.tables import EntryPlan, TablePlan, free_runs, lay_out, own_bits
@@ -200,8 +201,28 @@ def check_size(name, question, seen, made, most):
     probe.stop_at_difference(f"{name}, against generating and walks", question, " ".join(wanted), seen)
 
 
+def is_kept(question):
+    """Whether the line is compared with those of the reordered tables."""
+    return question[0] in ("lookup", "measure") or question[0] == "generate" and question[2] == BUFFER
+
+
+def compare_orders(kept, tally):
+    """Document 02's No. 12; the place of 19 has been compared by all words. kept: by the words of a table, its questions and probe's lines,
+    in the same order for each table"""
+    for words, answered in kept.items():
+        for to in itertools.permutations(range(words[0] >> 16 & 0xFFF)):
+            other = tuple(shuffles.reordered(words, to))
+            if other not in kept:
+                continue
+            for (_, line), (question, seen) in zip(answered, kept[other], strict=True):
+                expected = shuffles.moved_line(line, to, BUFFER)
+                probe.stop_at_difference(f"in the order {to}", question, expected, shuffles.place_left_open(seen))
+                tally["in another order, another line"] += line != seen
+            tally["orders"] += other != words
+
+
 def compare(path, long):
-    tally, twins, found = Counter(), Twins(SEED), {}
+    tally, twins, found, kept = Counter(), Twins(SEED), {}, defaultdict(list)
     for group in in_groups(all_questions(long)):
         lines = probe.ask(path, [question for _, question in group])
         twinned.compare(path, twins, [(*asked, seen) for asked, seen in zip(group, lines)], tally)
@@ -212,6 +233,8 @@ def compare(path, long):
             tally[f"{question[0]} {parts[1]}"] += 1
             tally[question[0]] += 1
             tally["questions"] += 1
+            if is_kept(question):
+                kept[tuple(question[1])].append((question, seen))
             if question[0] == "lookup" and question[2] not in HIGH_WORDS:
                 found[question[2]] = found_in(seen)
             if question[0] == "generate" and question[2] == BUFFER:
@@ -226,6 +249,7 @@ def compare(path, long):
             if question[0] == "measure":
                 check_size(name, question, seen, made, most)
                 found = {}
+    compare_orders(kept, tally)
     return tally
 
 
@@ -344,7 +368,8 @@ LEAST = {"lookup 0": 50000, "lookup 6": 500, "lookup 7": 10000, "generate 0": 10
          "measure 19": 2000, "by words 0": 7000, "by words 6": 1500, "by words 19": 2000, "by words 19, not entry 0": 600,
          "by words 19, one condition": 400, "by words 19, two conditions": 400, "by words 19, 2 of width 1": 100,
          "by words 19, 3 of width 1": 1200, "by words 19, 3 of width 2": 90, "changed 0": 15000, "changed 0, over 0": 10000,
-         "changed 6": 1000, "changed 7": 6000, "changed 11": 8000, "twins": 150000, "twins by the second": 7000}
+         "changed 6": 1000, "changed 7": 6000, "changed 11": 8000, "twins": 150000, "twins by the second": 7000,
+         "orders": 17900, "in another order, another line": 45000}
 
 
 def main():
@@ -357,6 +382,7 @@ def main():
     counts = ", ".join(f"{name}: {tally[name]}" for name in ("lookup", "generate", "check", "walk", "measure", "changed"))
     by_words = ", ".join(f"{what}: {tally[f'by words {number}']}" for what, number in (("tree", 0), ("6", 6), ("19", 19)))
     print(f"exhaustive good: {tables} tables, by all words {by_words}; {tally['questions']} questions ({counts}), {tally['twins']} to twins; "
+          f"{tally['orders']} other orders, by which {tally['in another order, another line']} lines change; "
           f"{noticed} of {len(MISTAKES)} mistakes noticed")
 
 

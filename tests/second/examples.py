@@ -1,5 +1,6 @@
 """Tables and questions written by hand, with the lines of docs/probe.md that document 01 asks for (masks, sizes and cycles: document
-02's No. 1 to No. 3; operands with a sign or a point: its No. 7; entries that no word selects: its No. 8; withdrawals: its No. 13).
+02's No. 1 to No. 3; operands with a sign or a point: its No. 7; entries that no word selects: its No. 8; other orders: its No. 12;
+withdrawals: its No. 13).
 
 Nothing here is computed by the second implementation: every number, place and mask was written out by reading the documents.
 """
@@ -1285,4 +1286,92 @@ NUMBERS_EXAMPLES = [
     ("form 3, word 1f8", lookup(table("10010009 20050910 00000100 00000100 33000008"), 0x1F8), "2 4 4 00000000"),
     ("9 fraction bits of 8, decoded", decode(table("10010009 20050910 00000100 00000100 32090008"), 0x1F8, EIGHTS), "5 4 4 00000000 " + KEPT),
     ("a spare bit, encoded", encode(table("10010009 20050910 00000100 00000100 31040008"), 0, [0xF8]), "6 2 4 00000000"),
+]
+
+
+# ---------------------------------------------------------------------------- tables in another order
+
+# The worked table from its last entry to its first, and its tree: entry e is entry 6 - e.
+WORKED_BACKWARDS = table("""
+    10070008
+    20100830 000000b0 00000030 30000601 30000202 30000002
+    200f0810 000000f3 00000002 30000202
+    200e0810 000000f3 00000001 30000202
+    200d0820 000000c3 00000081 30000402 30000202
+    200c0820 000000c3 00000080 30000402 30000202
+    200b0831 000000c0 00000040 30000402 30000202 30000002
+      40000000 00000030 00000030
+    200a0832 000000c0 00000000 30000402 30000202 30000002
+      40000002 00000030 00000000 50000000 00000003 00000000 50000000 00000003 00000003
+      40000000 00000030 00000030
+""")
+WORKED_BACKWARDS_TREE = table("""7008001b
+    83800015 83000010 8280000d 8200000c 80800009 80000008 90000006 90000002 8000000b 90000001 90000006
+      90000006 8200000f 90000006 90000000
+      82800012 90000005 82000014 90000005 90000000
+    8300001b 8080001a 80000019 90000004 90000003 a0000000 a0000000""")
+# --0, 0-- and 0-0: bits 2 and 0 are each in two masks, and the highest is tested, whichever entry comes first.
+LOW_FIRST = table("""10030003 20010310 00000001 00000000 30000102 20000310 00000004 00000000 30000002
+    20020310 00000005 00000000 30000101""")
+LOW_FIRST_TREE = table("70030007 81000005 80000004 90000002 90000001 80000007 90000000 a0000000")
+# -, 1, - without every word, 0: now the first and the third are never selected.
+TWO_UNREACHED_BACKWARDS = table("""10040001 200a0110 00000000 00000000 30000001 20090100 00000001 00000001
+    20080111 00000000 00000000 30000001 40000000 00000000 00000000 20070100 00000001 00000000""")
+# 1, - and 0, with cycles and without.
+COVERED_ROTATED = table("10030001 20090100 00000001 00000001 20070110 00000000 00000000 30000001 20080100 00000001 00000000")
+COVERED_CYCLES_ROTATED = table("60030001 20090100 00000001 00000001 00000007 20070110 00000000 00000000 00000005 30000001 "
+                               "20080100 00000001 00000000 00000006")
+# Width 1, each word twice.
+TWICE_ZERO_FIRST = table("10040001 20000100 00000001 00000000 20010100 00000001 00000000 "
+                         "20020100 00000001 00000001 20030100 00000001 00000001")
+TWICE_ONE_FIRST = table("10040001 20020100 00000001 00000001 20030100 00000001 00000001 "
+                        "20000100 00000001 00000000 20010100 00000001 00000000")
+# Width 3: --- without --1, and --- without 1-1 and --0. Bit 2 is the highest in their conditions; the first entry alone has bit 0.
+CONDITIONS_APART = table("10020003 20000311 00000000 00000000 30000003 40000000 00000001 00000001 "
+                         "20010312 00000000 00000000 30000003 40000000 00000005 00000005 40000000 00000001 00000000")
+CONDITIONS_APART_TREE = table("70030007 81000005 80000004 90000000 90000001 80000007 90000000 a0000000")
+CONDITIONS_APART_BACKWARDS = table("10020003 20010312 00000000 00000000 30000003 40000000 00000005 00000005 40000000 00000001 00000000 "
+                                   "20000311 00000000 00000000 30000003 40000000 00000001 00000001")
+CONDITIONS_APART_BACKWARDS_TREE = table("70030007 81000005 80000004 90000001 90000000 80000007 90000001 a0000000")
+
+# (table, order, the reordered table): entry e of the table is the entry of the reordered one that the order has at e.
+REORDERED = [
+    (WORKED, [6, 5, 4, 3, 2, 1, 0], WORKED_BACKWARDS),
+    (WITH_THIRD, [1, 0, 2], LOW_FIRST),
+    (TWO_UNREACHED, [3, 2, 1, 0], TWO_UNREACHED_BACKWARDS),
+    (COVERED_BY_TWO, [1, 2, 0], COVERED_ROTATED),
+    (COVERED_CYCLES, [1, 2, 0], COVERED_CYCLES_ROTATED),
+    (TWICE_ZERO_FIRST, [2, 3, 0, 1], TWICE_ONE_FIRST),
+    (CONDITIONS_APART, [1, 0], CONDITIONS_APART_BACKWARDS),
+]
+
+# (what it shows, the question, the line)
+SHUFFLE_EXAMPLES = [
+    ("the worked table backwards, 28 words", generate(WORKED_BACKWARDS, 28), "3 0 0 00000000 28 | " + tree_text(WORKED_BACKWARDS_TREE)),
+    ("the worked table backwards, 27 words", generate(WORKED_BACKWARDS, 27), f"3 5 0 00000000 {zeros(27)}"),
+    ("size of the worked table backwards", size(WORKED_BACKWARDS), "12 0 0 00000000 27 6"),
+    *((f"the worked table backwards, {word:#04x}", lookup(WORKED_BACKWARDS, word),
+       f"2 0 0 00000000 {named if named == 'nothing' else 6 - int(named)}") for word, named, _, _ in MARKED),
+    ("backwards, 0x36 decodes to G", decode(WORKED_BACKWARDS, 0x36, EIGHTS),
+     "5 0 0 00000000 0 | 00000000 00000001 00000002 88888888 88888888 88888888 88888888 88888888"),
+    ("backwards, encoding A with 0, 0, 1", encode(WORKED_BACKWARDS, 6, [0, 0, 1]), "6 13 0 00000001"),
+    ("0-0 added, the second first", generate(LOW_FIRST, 9), "3 0 0 00000000 8 | " + tree_text(LOW_FIRST_TREE) + " 99999999"),
+    ("conditions with other bits", generate(CONDITIONS_APART, 8), "3 0 0 00000000 8 | " + tree_text(CONDITIONS_APART_TREE)),
+    ("conditions with other bits, backwards", generate(CONDITIONS_APART_BACKWARDS, 8),
+     "3 0 0 00000000 8 | " + tree_text(CONDITIONS_APART_BACKWARDS_TREE)),
+    # The entry of TWO_UNREACHED that was the lower one has become the higher one.
+    ("two unreached, backwards, 4 words", generate(TWO_UNREACHED_BACKWARDS, 4), f"3 19 0 00000000 {zeros(4)}"),
+    ("two unreached, backwards, 3 words", generate(TWO_UNREACHED_BACKWARDS, 3), f"3 5 0 00000000 {zeros(3)}"),
+    ("size, two unreached, backwards", size(TWO_UNREACHED_BACKWARDS), "12 19 0 00000000"),
+    ("covered, rotated, 4 words", generate(COVERED_ROTATED, 4), f"3 19 1 00000000 {zeros(4)}"),
+    ("size, covered, rotated", size(COVERED_ROTATED), "12 19 1 00000000"),
+    *((f"covered, rotated, word {word}", lookup(COVERED_ROTATED, word), f"2 0 0 00000000 {named}") for word, named in ((0, 2), (1, 0))),
+    *((f"covered, rotated, cycles of {entry}", cycles(COVERED_CYCLES_ROTATED, entry), f"13 0 0 00000000 {number}")
+      for entry, number in enumerate((7, 5, 6))),
+    # "6 and the word": that of the first conflict cell in node order, not of the first entries.
+    *((f"{what}, {length} words", generate(words, length), f"3 {number} 0 00000000 {zeros(length)}")
+      for what, words in (("twice 0, twice 1", TWICE_ZERO_FIRST), ("twice 1, twice 0", TWICE_ONE_FIRST))
+      for number, length in ((6, 4), (5, 3))),
+    ("twice 1, twice 0, word 1", lookup(TWICE_ONE_FIRST, 1), "2 6 0 00000001"),
+    ("twice 1, twice 0, word 0", lookup(TWICE_ONE_FIRST, 0), "2 6 0 00000000"),
 ]

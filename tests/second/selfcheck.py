@@ -17,7 +17,8 @@ sys.path[:] = [str(HERE.parent), *(place for place in sys.path if Path(place).re
 from fractions import Fraction
 
 from second import checker, checktrees, cost, examples, image, images, measure, numbers, reach, reader, selection, tables, tree, trees, \
-    twins, walk, withdrawal, wrong_cycles, wrong_masks, wrong_numbers, wrong_reach, wrong_sizes, wrong_withdrawal
+    twins, walk, withdrawal, wrong_cycles, wrong_masks, wrong_numbers, wrong_reach, wrong_shuffles, wrong_sizes, \
+    wrong_withdrawal
 from second.lines import line_of, mktree_text
 from second.reader import Refusal, Table, read
 
@@ -51,7 +52,7 @@ MOST_MASKS_LINE = "3 0 0 00000000 6 | 70030005 80000005 81000004 90000001 900000
 ASKED = [(name, ("read", words), line) for name, words, line in examples.READ_EXAMPLES] + examples.SELECTION_EXAMPLES \
     + examples.TREE_EXAMPLES + examples.CHECK_EXAMPLES + examples.IMAGE_EXAMPLES + examples.STEP_MASK_EXAMPLES \
     + examples.SIZE_EXAMPLES + examples.CYCLES_EXAMPLES + examples.REACH_EXAMPLES + examples.WITHDRAWAL_EXAMPLES \
-    + examples.NUMBERS_EXAMPLES \
+    + examples.NUMBERS_EXAMPLES + examples.SHUFFLE_EXAMPLES \
     + [("the bit of the most masks", ("generate", MOST_MASKS, [0] * 6), MOST_MASKS_LINE)]
 
 
@@ -253,8 +254,8 @@ def cycles_of_no_word(reading):
 
 
 HOMES = {reader: ("read_cycles", "form_at_fault", "spare_bit_set", "read_field"),
-         selection: ("satisfied", "more_specific", "select", "field_value", "encode"),
-         tree: ("entry_status", "condition_status", "chosen_bit", "conflict_word", "refusal_of", "generate"),
+         selection: ("satisfied", "more_specific", "select", "field_value", "encode", "decode"),
+         tree: ("entry_status", "condition_status", "chosen_bit", "conflict_word", "refusal_by_leaves", "refusal_of", "generate"),
          walk: ("damaged", "header_good", "packed", "walk", "mask_bytes"),
          checker: ("widths_equal", "none_damaged", "one_sides_begin_right", "all_used", "no_bit_twice", "named_right",
                    "nothing_right", "first_step"),
@@ -395,6 +396,25 @@ MISTAKES = [("satisfied", one_missed_is_enough, "0x00 A"),
             ("changed", wrong_withdrawal.index_for_place, "a high word at the end"),
             ("changed", wrong_withdrawal.whole_table_unambiguous, "0-- and --0, the words that are not ambiguous, entry 0 withdrawn"),
             ("changed", wrong_withdrawal.reach_judged, "covered by two, entry 1 withdrawn"),
+            # compare_shuffle.py has the others
+            ("select", wrong_shuffles.first_of_equals, "twice 1, twice 0, word 1"),
+            ("select", wrong_shuffles.last_of_equals, "twice 1, twice 0, word 0"),
+            ("select", wrong_shuffles.first_claiming, "covered, rotated, word 0"),
+            ("select", wrong_shuffles.earlier_not_compared, "twice 1, twice 0, word 1"),
+            ("chosen_bit", wrong_shuffles.tie_by_first_entry, "0-0 added, the second first"),
+            ("chosen_bit", wrong_shuffles.first_mask_alone, "0-0 added, the second first"),
+            ("chosen_bit", wrong_shuffles.first_condition_alone, "conditions with other bits"),
+            ("refusal_by_leaves", wrong_shuffles.word_of_lowest_entries, "twice 1, twice 0, 4 words"),
+            ("refusal_by_leaves", wrong_shuffles.lowest_entry_at_fault, "6 before 19, 4 words"),
+            ("refusal_of", wrong_shuffles.room_up_to_last_entry, "the worked table backwards, 27 words"),
+            ("refusal_of", wrong_shuffles.two_entries_judged, "the last covered, 4 words"),
+            ("generate", wrong_shuffles.first_of_same_opcode, "conditions with other bits"),
+            ("generate", wrong_shuffles.numbered_by_opcode, "the worked table backwards, 28 words"),
+            ("generate", wrong_shuffles.numbered_from_end, "the worked table backwards, 28 words"),
+            ("generate", wrong_shuffles.first_leaves_sorted, "0-0 added, the second first"),
+            ("measure", wrong_shuffles.tests_to_last_entry, "size of the worked table"),
+            ("decode", wrong_shuffles.fields_of_first, "0x36 decodes to G, f 0, b 1, c 2"),
+            ("encode", wrong_shuffles.later_not_compared, "covered, encoded"),
             # in tables
             ("form_at_fault", wrong_numbers.form_three_taken, "form 3"),
             ("form_at_fault", wrong_numbers.form_two_refused, "a field with a point, no fraction bits"),

@@ -7,14 +7,14 @@ use mathlib.Core.Option.{Option, none, some}
 use lib.Dec.{leb, ltb}
 use lib.ListN.{length}
 use borrow.Author.Tests.{lt-ltb}
-use Rattle.words.specs.Outcome.{result, refused}
+use Rattle.words.specs.Outcome.{Outcome, result, faulty, refused}
 use Rattle.table.specs.Table.{Table, entryNumber}
 use Rattle.choice.specs.Rule.{Choice, names, nothing, ambiguous, movedChoice}
 use Rattle.selection.specs.Selection.{select}
 use Rattle.selection.specs.Lookup.{lookedUp, lookOf}
 use Rattle.selection.proofs.Formula.{names-exactly}
 use Rattle.operands.specs.Fields.{misfit}
-use Rattle.operands.specs.Calls.{decodedAs, decodeOf, encodedAs, encodedFrom, encodeOf}
+use Rattle.operands.specs.Calls.{Decoded, entry-values, none-selected, decodedAs, decodeOf, bufferAfter, encodedAs, encodedFrom, encodeOf}
 use Rattle.shuffle.specs.Shuffled.{Shuffled}
 use Rattle.shuffle.specs.Moved.{movedAnswer, movedDecoded}
 use Rattle.shuffle.proofs.Shuffling.{select-shuffled, selects-shuffled}
@@ -45,6 +45,14 @@ module _ (t u : Table) (wide : u .width ≡ t .width) (s : Shuffled (t .entries)
       decoded true true ambiguous h = refl
       decoded true false a h = refl
       decoded false c a h = refl
+
+-- the field buffer does not depend on the entry's number
+pub buffer-moved : (to : ℕ → ℕ) (r : Outcome Decoded) (out : List ℕ) → bufferAfter (movedDecoded to r) out ≡ bufferAfter r out
+unfolding bufferAfter
+buffer-moved to (result (entry-values e vs)) out = refl
+buffer-moved to (result none-selected) out = refl
+buffer-moved to (faulty n p) out = refl
+buffer-moved to (refused n p w) out = refl
 
 module _ (t u : Table) (s : Shuffled (t .entries) (u .entries)) (e : ℕ) (h : e < length (t .entries)) where
   made : (w : ℕ) → encodedAs (u .entries) (s .to e) w ≡ encodedAs (t .entries) e w

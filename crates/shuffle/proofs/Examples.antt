@@ -1,12 +1,13 @@
--- Tables in another order, from their words: the trees, the refusals and the lookups, computed. Assumes nothing.
+-- Tables in another order, from their words: the lookups, the trees and 19, computed. Assumes nothing.
 use Prim.Native.Nat.{ℕ}
 use mathlib.Core.Path.{_≡_, refl}
 use mathlib.Core.List.{List, [], _∷_, map, List·Permᴰ·cons, List·Permᴰ·swap, List·Permᴰ·trans}
-use Rattle.words.specs.Outcome.{refused}
+use mathlib.Core.Option.{none, some}
+use Rattle.words.specs.Outcome.{result, refused}
 use Rattle.table.specs.Table.{tableOf}
 use Rattle.table.specs.Check.{readTable}
 use Rattle.table.proofs.Examples.{opened}
-use Rattle.selection.proofs.Examples.{three}
+use Rattle.selection.proofs.Examples.{looks, three}
 use Rattle.tree.specs.Generate.{generateOf, bufferOf}
 use Rattle.tree.proofs.Examples.{answered}
 use Rattle.shuffle.specs.Shuffled.{Shuffled}
@@ -31,6 +32,15 @@ numbers = refl
 former : map (order .from) (0 ∷ 1 ∷ 2 ∷ []) ≡ 2 ∷ 0 ∷ 1 ∷ []
 unfolding order
 former = refl
+
+-- 0-1, 0-0, 1-0 and 1-1 in each
+lookups : looks three (1 ∷ 0 ∷ 4 ∷ 5 ∷ []) ≡ result (some 0) ∷ result (some 2) ∷ result (some 1) ∷ result none ∷ []
+unfolding looks
+lookups = refl
+
+moved-lookups : looks last-first (1 ∷ 0 ∷ 4 ∷ 5 ∷ []) ≡ result (some 1) ∷ result (some 0) ∷ result (some 2) ∷ result none ∷ []
+unfolding looks
+moved-lookups = refl
 
 -- the trees, in buffers of nine words: the tests and the nothing stay, each leaf has the entry's other number
 abbrev buffer : List ℕ

@@ -1,11 +1,12 @@
 -- Document 02, No. 12, sentence by sentence, over the definitions that the calls' contracts cite. Assumes nothing.
 --   `maker::generate` answers `generateOf (readTable ws) (length out)` and leaves `bufferOf (readTable ws) out`; `maker::measure` answers
---   `measureOf (readTable ws)`; `selection::find` answers `lookOf (readTable ws) w`.
+--   `measureOf (readTable ws)`, `selection::lookup` `lookOf (readTable ws) w`, `operands::decode` `decodeOf (readTable ws) w (length out)`, whose
+--   `bufferAfter` it leaves, and `operands::encode` `encodeOf (readTable ws) e values`.
 --     permuted (Permutations.antt)     every permutation of a list of entries is an order of it
 --     generated-alike, sized-alike     refused alike for 5, for 6 with the word, and for 19; else the same answer
 --     word-moved, others-same, leaf-names     the words of the two trees
 --     after-trees, refused-same     what stands after the trees, and what a refusal leaves
---     lookup-moved, reached-exactly     what each word selects, and who is reached
+--     lookup-moved, decode-moved, fields-same, encode-moved, reached-exactly     the other calls: the moved entry, and nothing else
 use Prim.Native.Nat.{ℕ, _+_, _<_}
 use native.Mathlib.Omega.{arith}
 use mathlib.Core.Path.{_≡_, sym, ap, ap₂, _∙_}
@@ -13,12 +14,12 @@ use mathlib.Core.Logic.{_↔_}
 use mathlib.Core.List.{List}
 use lib.ListN.{length, drop, replicate, List·getD-map}
 use Rattle.words.specs.Words.{word, part}
-use Rattle.words.specs.Outcome.{result}
+use Rattle.words.specs.Outcome.{Outcome, result}
 use Rattle.table.specs.Table.{Table, entryNumber, kindOf}
 use Rattle.table.specs.Check.{readTable}
 use Rattle.choice.specs.Rule.{names}
 use Rattle.selection.specs.Lookup.{lookOf}
-use Rattle.operands.specs.Calls.{decodeOf, encodeOf}
+use Rattle.operands.specs.Calls.{Decoded, decodeOf, bufferAfter, encodeOf}
 use Rattle.tree.specs.Tree.{tree, size}
 use Rattle.tree.specs.Written.{leafWord, written}
 use Rattle.tree.specs.Generate.{measured, generateOf, bufferOf, surveyOf, measureOf}
@@ -27,7 +28,7 @@ use Rattle.tree.proofs.Reach.{Reached}
 use Rattle.shuffle.specs.Shuffled.{Shuffled}
 use Rattle.shuffle.specs.Moved.{movedWord, movedAnswer, movedDecoded, Alike}
 use Rattle.shuffle.proofs.Permutations.{turned}
-use Rattle.shuffle.proofs.Answering.{look-shuffled, decode-shuffled, encode-shuffled}
+use Rattle.shuffle.proofs.Answering.{look-shuffled, decode-shuffled, buffer-moved, encode-shuffled}
 use Rattle.shuffle.proofs.Moving.{size-moved, depth-moved, stays, leaf-moved}
 use Rattle.shuffle.proofs.Shuffling.{reached-moved}
 use Rattle.shuffle.proofs.Generating.{written-shuffled, names-entry, judged-shuffled}
@@ -40,9 +41,12 @@ module _ (ws vs : List ℕ) (t u : Table) (reads : readTable ws ≡ result t) (a
   pub lookup-moved : (w : ℕ) → lookOf (readTable vs) w ≡ movedAnswer (s .to) (lookOf (readTable ws) w)
   lookup-moved w = rw (reads, also) (look-shuffled t u wide s w)
 
-  -- decoding answers it with the same values, and encoding it gives the same
+  -- decoding answers it and leaves the same field values, and encoding it gives the same
   pub decode-moved : (w room : ℕ) → decodeOf (readTable vs) w room ≡ movedDecoded (s .to) (decodeOf (readTable ws) w room)
   decode-moved w room = rw (reads, also) (decode-shuffled t u wide s w room)
+
+  pub fields-same : (w : ℕ) (out : List ℕ) → bufferAfter (decodeOf (readTable vs) w (length out)) out ≡ bufferAfter (decodeOf (readTable ws) w (length out)) out
+  fields-same w out = ap (λ (r : Outcome Decoded). bufferAfter r out) (decode-moved w (length out)) ∙ buffer-moved (s .to) (decodeOf (readTable ws) w (length out)) out
 
   pub encode-moved : (e : ℕ) → e < length (t .entries) → (values : List ℕ) → encodeOf (readTable vs) (s .to e) values ≡ encodeOf (readTable ws) e values
   encode-moved e h values = rw (reads, also) (encode-shuffled t u s e h values)

@@ -1,0 +1,587 @@
+"""Reorders the entries of tables (second/shuffles.py) and asks probe the same of each table and of its reorderings: lookup, decode, encode,
+cycles, measure, and generate into equally long buffers with other words in them. What probe must print for a reordered table follows from
+its line for the table and from the order alone. The place of 19 is left open there; it must be the lowest entry of its own table that no
+word selects, by probe's own lookups of all words, or by the second implementation where they are too many. A part of the lines is compared
+with the second implementation too, and a part is asked again about twins of the other kind. At the end mistakes with the order
+(second/wrong_shuffles.py) are made, in programs and in what is expected of them, and each must be noticed.
+
+Usage: compare_shuffle.py [path of probe]. Exits with status 1 at the first difference. Quotations are document 02's No. 12.
+"""
+
+import random
+import sys
+from collections import Counter
+from contextlib import contextmanager
+from dataclasses import dataclass, field, replace
+
+import probe
+import twinned
+from compare_tree import random_buffer
+from compare_withdrawal import apart_plan
+from exhaustive import found_in
+from second import examples, reach, shuffles, tables, tree, wrong_shuffles
+from second.lines import line_of
+from second.reader import Table, read
+from second.selection import field_value
+from second.shuffles import from_of, number_in, place_in
+from second.tables import PLAIN, WITH_CYCLES
+from second.tree import MOST_TREE_WORDS
+from second.twins import Twins, kind_of
+
+SEED = 12
+NARROW = 8              # tables up to that width are asked about all words
+ORDERS = 3              # of each table that has so many
+ROUNDS = 4              # of narrow tables
+WIDE_ROUNDS = 2
+USUAL_NODES = 400       # larger trees are made on purpose only, because Python is slow
+LONG = 2000             # and longer tables are asked of probe alone
+WITH_TREE = 0.7         # so many of the drawn plans lose the entries that no word selects
+SOME_WORDS = 16         # looked up in a wide table
+SOME_DECODED = 6
+SOME_ENTRIES = 4        # encoded, and asked for their cycles
+LIMIT_DEPTH = 13        # a full tree so deep has 16,383 nodes
+LARGE_OFTEN = 0.1       # so many of the refused tables are lent a buffer for the largest tree
+SECOND_EACH = 12        # every so many-th line is the second implementation's too
+SECOND_TABLES = 8       # and all trees of every so many-th table
+SMALL = 5               # and of the tables up to that width, on which mistakes are tried
+TWINS_EACH = 15         # every so many-th line about reordered tables is asked again about their twins
+MANY = "256 entries apart"
+LARGE = (MANY, "256 entries", "longest", "at the limit", "at the limit, twice", "at the limit, excluded", "one test over", "far over")
+MAKING = ("measure", "generate")    # the calls that make the tree
+
+
+@dataclass(eq=False)
+class Asked:
+    """A good table and its reorderings."""
+    name: str
+    plan: tables.TablePlan      # None where the table is written by hand
+    words: list
+    nodes: int                  # of its tree, by the second implementation, which only chooses lengths with it; None if they are many
+    orders: list                # (name, to)
+    reordered: list = None      # the words for each order
+    size: str = None            # probe's line for the table
+    lowest: list = None         # the lowest entry that no word selects, of the table and of each reordered one; None if not asked for
+
+    def __post_init__(self):
+        self.reordered = [shuffles.reordered(self.words, to) for _, to in self.orders]
+
+    @property
+    def width(self):
+        return self.words[0] & 0xFF
+
+    @property
+    def count(self):
+        return self.words[0] >> 16 & 0xFFF
+
+    @property
+    def is_narrow(self):
+        return self.width <= NARROW
+
+
+@dataclass
+class Case:
+    """A question about a table, the same about each of its reorderings, and probe's lines."""
+    asked: Asked
+    question: tuple
+    again: list
+    known: str = None       # the number of the refusal, where it is known; 0 for none
+    line: str = None
+    seen: list = field(default_factory=list)
+
+
+def case_of(asked, name, *parts):
+    question = (name, asked.words, *parts)
+    return Case(asked, question, [shuffles.moved_question(question, words, to) for (_, to), words in zip(asked.orders, asked.reordered)])
+
+
+# ---------------------------------------------------------------------------- tables
+
+def twice_plan(rng, width):
+    """Nested entries, and some of them twice."""
+    plan = tables.nested_plan(rng, width, most_entries=5, conditions_often=0.2)
+    again = [tables.twin_entry(rng, width, entry) for entry in rng.sample(plan.entries, rng.randint(1, len(plan.entries)))]
+    return tables.TablePlan(width, [*plan.entries, *again])
+
+
+DRAWN = {
+    "nested": lambda rng, width: tables.nested_plan(rng, width, most_entries=8),
+    "joined": lambda rng, width: tables.joined_plan(rng, width, most_entries=12) or tables.nested_plan(rng, width),
+    "divided": tables.divided_plan,
+    "overlapping": lambda rng, width: tables.overlapping_plan(rng, width, most_entries=6),
+    "overlapping without conditions": lambda rng, width: tables.overlapping_plan(rng, width, conditions_often=0),
+    "unrelated": lambda rng, width: tables.good_plan(rng, width, most_entries=6),
+    "entries twice": twice_plan,
+}
+
+
+def nodes_in(words):
+    return tree.nodes_of(read(words), USUAL_NODES)
+
+
+def usual_plan(rng, draw, width):
+    """A plan that is drawn so, with a tree of a usual size. The second implementation only sorts out plans and entries."""
+    while True:
+        plan = draw(rng, width)
+        nodes = nodes_in(tables.lay_out(plan).words)
+        if nodes is not None:
+            return reach.reachable(plan, nodes) if rng.random() < WITH_TREE else plan
+
+
+def covered_plans(rng, width):
+    """One entry is selected by no word, or by a single one; then two entries are selected by none."""
+    for how in tables.COVERS:
+        yield how, tables.covered_plan(rng, width, how)[0]
+        yield f"{how}, a word spared", tables.covered_plan(rng, width, how, spared=True)[0]
+    yield "two that no word selects", tables.with_excluded(rng, tables.covered_plan(rng, width, rng.choice([*tables.COVERS]))[0])[0]
+
+
+def plans_of(rng, width):
+    for name, draw in DRAWN.items():
+        yield name, usual_plan(rng, draw, width)
+    yield from covered_plans(rng, width)
+
+
+def one_entry_plan(rng, width):
+    entry = tables.fresh_entry(rng, width)
+    tables.add_conditions(rng, width, entry, 0.5)
+    return tables.TablePlan(width, [entry])
+
+
+def limit_plan(rng, width, **how):
+    """A tree of 16,383 nodes, or what full_tree_plan makes more of it; three of its leaves are entries of their own."""
+    plan = tables.full_tree_plan(rng, width, LIMIT_DEPTH, **how)
+    own = tables.own_bits(width, LIMIT_DEPTH)
+    for value in rng.sample(range(1 << LIMIT_DEPTH), 3):
+        entry = tables.run_entry(rng, width, LIMIT_DEPTH, own, value << width - LIMIT_DEPTH)
+        plan.entries.insert(rng.randint(0, len(plan.entries)), entry)
+    return plan
+
+
+def limit_plans(rng):
+    for width in (LIMIT_DEPTH, 20, 32):
+        yield "at the limit", limit_plan(rng, width)
+    yield "at the limit, twice", limit_plan(rng, 20, twice=True)
+    yield "at the limit, excluded", tables.with_excluded(rng, limit_plan(rng, 20))[0]
+    for twice in (False, True):
+        yield "one test over", limit_plan(rng, 20, one_more=True, twice=twice)
+    yield "one test over", tables.with_excluded(rng, limit_plan(rng, 20, one_more=True))[0]
+    yield "far over", tables.full_tree_plan(rng, 32, 32, twice=True)
+
+
+def few_plans(rng):
+    """What there is less of: no entries, one, 256 of them, trees at the limit."""
+    for width in range(1, 33):
+        yield "no entries", tables.TablePlan(width, [])
+        yield "one entry", one_entry_plan(rng, width)
+    for width in (NARROW, NARROW + 1, 17, 32):
+        yield "256 entries", tables.small_entries_plan(rng, width, 256)
+        yield MANY, apart_plan(rng, width)
+    yield from limit_plans(rng)
+
+
+def laid_tables(rng):
+    """(name, laid): half of the tables are of kind 6."""
+    for width in range(1, 33):
+        for _ in range(ROUNDS if width <= NARROW else WIDE_ROUNDS):
+            for name, plan in plans_of(rng, width):
+                yield name, rng.choice(tables.lay_out_both(rng, plan))
+    for name, plan in few_plans(rng):
+        yield name, rng.choice(tables.lay_out_both(rng, plan))
+    yield from (("longest", tables.lay_longest(rng, kind)) for kind in (PLAIN, WITH_CYCLES))
+
+
+def hand_written():
+    """The tables of examples.py that read without fault."""
+    lists = [value for value in vars(examples).values() if isinstance(value, list) and value and isinstance(value[0], int)]
+    return [words for words in lists if isinstance(read(words), Table)]
+
+
+def nodes_known(name, words):
+    nodes = None if name in LARGE or len(words) > LONG else nodes_in(words)
+    return None if nodes is None else len(nodes)
+
+
+def asked_of(rng, name, plan, words):
+    return Asked(name, plan, words, nodes_known(name, words), shuffles.some_orders(rng, words[0] >> 16 & 0xFFF, ORDERS))
+
+
+def all_tables(rng):
+    some = [asked_of(rng, name, laid.plan, laid.words) for name, laid in laid_tables(rng)]
+    return some + [asked_of(rng, "by hand", None, words) for words in hand_written()]
+
+
+def check_laid(asked):
+    """The words of a reordered table are those of its plan, if it has one, with the entries in the other order."""
+    for (_, to), words in zip(asked.orders, asked.reordered) if asked.plan is not None else ():
+        entries = [asked.plan.entries[entry] for entry in from_of(to)]
+        if tables.lay_out(tables.TablePlan(asked.plan.width, entries), kind_of(words)).words != words:
+            sys.exit(f"the order {to} isn't what the words have: {probe.shown(asked.words)}; {probe.shown(words)}")
+
+
+# ---------------------------------------------------------------------------- questions
+
+def words_for(rng, asked):
+    """All words of a narrow table, some of a wide one, which mostly some entry has an opinion on."""
+    if asked.is_narrow:
+        return range(1 << asked.width)
+    plan = asked.plan or tables.TablePlan(asked.width, [])
+    return [*dict.fromkeys(tables.word_for(rng, plan) for _ in range(SOME_WORDS))]
+
+
+def high_words(rng, asked):
+    """With a bit at or above the width: 7 stays 7."""
+    return [rng.getrandbits(asked.width) | 1 << bit for bit in {asked.width, 31} if bit in range(asked.width, 32)]
+
+
+def decode_cases(rng, asked, words):
+    for word in [*rng.sample(words, min(SOME_DECODED, len(words))), *high_words(rng, asked)[:1]]:
+        yield case_of(asked, "decode", word, random_buffer(rng, rng.choice([8, 9])))
+    yield case_of(asked, "decode", rng.choice(words), random_buffer(rng, 7))
+
+
+def some_entries(rng, asked):
+    return sorted(rng.sample(range(asked.count), min(SOME_ENTRIES, asked.count)))
+
+
+def encode_cases(rng, asked):
+    """Values that fit, the last one too large, too many of them, no such entry."""
+    entries = read(asked.words).entries
+    for number in some_entries(rng, asked):
+        values = [field_value(rng.getrandbits(asked.width), one) for one in entries[number].fields]
+        yield case_of(asked, "encode", number, values)
+        if values and entries[number].fields[-1].width < 32:
+            yield case_of(asked, "encode", number, [*values[:-1], 1 << entries[number].fields[-1].width])
+    yield case_of(asked, "encode", rng.randrange(asked.count + 1), [0] * 9)
+    yield case_of(asked, "encode", rng.choice([asked.count, 256, tables.ALL_BITS]), [])
+
+
+def cycles_cases(rng, asked):
+    yield from (case_of(asked, "cycles", number) for number in some_entries(rng, asked))
+    yield case_of(asked, "cycles", rng.choice([asked.count, 256, tables.ALL_BITS]))
+
+
+def cases_on(rng, asked):
+    words = words_for(rng, asked)
+    yield from (case_of(asked, "lookup", word) for word in [*words, *high_words(rng, asked)])
+    yield from decode_cases(rng, asked, words)
+    yield from encode_cases(rng, asked)
+    yield from cycles_cases(rng, asked)
+    yield case_of(asked, "measure")
+
+
+def generate_case(rng, asked, length, known=None):
+    """"generating into equally long buffers", each with words of its own."""
+    question = ("generate", asked.words, random_buffer(rng, length))
+    return Case(asked, question, [("generate", words, random_buffer(rng, length)) for words in asked.reordered], known)
+
+
+def generate_cases(rng, asked):
+    """With its nodes and one word more the tree fits, with the nodes alone it doesn't; if it is too large for any buffer, never."""
+    number = number_in(asked.size)
+    nodes = int(asked.size.split(" ")[4]) if number == "0" else asked.nodes
+    if nodes is None:
+        for length in (0, MOST_TREE_WORDS - 1, MOST_TREE_WORDS, MOST_TREE_WORDS + 3):
+            yield generate_case(rng, asked, length, "5" if number == "5" or length == 0 else None)
+        return
+    for length in {0, rng.randint(0, nodes), nodes}:
+        yield generate_case(rng, asked, length, "5")
+    for length in (nodes + 1, nodes + 2 + rng.randrange(12)):
+        yield generate_case(rng, asked, length, number)
+    if number != "0" and rng.random() < LARGE_OFTEN:
+        yield generate_case(rng, asked, MOST_TREE_WORDS, number)
+
+
+# ---------------------------------------------------------------------------- comparing
+
+def answer(path, cases):
+    lines = iter(probe.ask(path, [question for case in cases for question in (case.question, *case.again)]))
+    for case in cases:
+        case.line, *case.seen = [next(lines) for _ in (case.question, *case.again)]
+
+
+def lent_in(question):
+    return question[2] if question[0] == "generate" else ()
+
+
+def compared_orders(case, moved_line=shuffles.moved_line):
+    """(what, question, expected, seen): the lines for the reordered tables, by the table's. The place of 19 is the lowest entry of its own
+    table that no word selects."""
+    for (_, to), question, seen in zip(case.asked.orders, case.again, case.seen, strict=True):
+        expected = moved_line(case.line, to, lent_in(question))
+        yield "reordered", question, expected, shuffles.opened_like(expected, seen)
+    lines = [case.line, *case.seen]
+    for question, line, lowest in zip((case.question, *case.again), lines, case.asked.lowest or [None] * len(lines), strict=True):
+        if number_in(line) == "19":
+            yield "the place of 19", question, str(lowest), place_in(line)
+
+
+def compared_itself(case):
+    """(what, question, expected, seen): the words after the table's own tree are its own buffer's; the number, where it is known."""
+    expected = shuffles.moved_line(case.line, [*range(case.asked.count)], lent_in(case.question))
+    yield "not reordered", case.question, expected, shuffles.opened_like(expected, case.line)
+    if case.known is not None:
+        yield "as it is known", case.question, case.known, number_in(case.line)
+
+
+def differs(case, moved_line=shuffles.moved_line):
+    return any(expected != seen for _, _, expected, seen in compared_orders(case, moved_line))
+
+
+def compare(cases, tally):
+    for case in cases:
+        for what, question, expected, seen in (*compared_orders(case), *compared_itself(case)):
+            probe.stop_at_difference(f"{case.asked.name}, {what}", question, expected, seen)
+        count(case, tally)
+
+
+# ---------------------------------------------------------------------------- entries that no word selects
+
+def selected_in(cases):
+    """What probe's own lookups find in the table of these cases, and in each reordered one; words that are too high are left out."""
+    lines = [(case.line, *case.seen) for case in cases if case.question[0] == "lookup" and number_in(case.line) != "7"]
+    return [{found_in(line) for line in of_table} for of_table in zip(*lines)]
+
+
+def unreached_by_second(words):
+    return tree.unnamed_entries(read(words), tree.nodes_of(read(words)))
+
+
+def set_lowest(asked, cases, tally):
+    """Of a table that sizing refuses with 19."""
+    if asked.is_narrow:
+        unreached = [reach.unreached_in(asked.count, selected) for selected in selected_in(cases)]
+    else:
+        unreached = [unreached_by_second(words) for words in (asked.words, *asked.reordered)]
+    asked.lowest = [next(iter(numbers), None) for numbers in unreached]
+    tally[f"19 by {'lookups' if asked.is_narrow else 'the second'}"] += 1
+    tally["19, several"] += len(unreached[0]) > 1
+
+
+# ---------------------------------------------------------------------------- counting
+
+def count_places(to, line, seen, tally):
+    """"For 19 the two tables are refused alike, though the lowest entry may differ.\""""
+    before, after = int(place_in(line)), int(place_in(seen))
+    tally["19, another place"] += before != after
+    tally["19, the same place"] += before == after
+    tally["19, the moved entry"] += after == to[before]
+    tally["19, another entry"] += after != to[before]
+
+
+def count_tree(to, line, tally):
+    front, _, back = line.partition(" |")
+    length = int(front.split(" ")[4])
+    words = [int(word, 16) for word in back.split()]
+    leaves = [word & 0xFF for word in words[:length] if word >> 28 == 9]
+    tally["leaves"] += len(leaves)
+    tally["leaves with another number"] += sum(to[entry] != entry for entry in leaves)
+    tally["trees with a moved leaf"] += any(to[entry] != entry for entry in leaves)
+    tally["tests"] += sum(word >> 28 == 8 for word in words[:length])
+    tally["nothings"] += sum(word >> 28 == 10 for word in words[:length])
+    tally["words after a tree"] += len(words) - length
+
+
+def count(case, tally):
+    """Each reordering by itself."""
+    name, number = case.question[0], number_in(case.line)
+    for (_, to), again, seen in zip(case.asked.orders, case.again, case.seen):
+        tally["lines"] += 1
+        tally[name] += 1
+        tally[f"{name} {number}"] += 1
+        tally[f"{case.asked.name}: {name} {number}"] += 1
+        tally[f"kind {kind_of(case.asked.words)}: {name} {number}"] += 1
+        tally[f"{name} {number}, not word 0"] += case.line.split(" ")[3] != "00000000"
+        tally[f"{name}, another number in it"] += case.line != seen
+        tally[f"{name}, another entry asked"] += name in shuffles.TAKING and case.question[2] != again[2]
+        if name == "generate" and number == "0":
+            count_tree(to, case.line, tally)
+        if name == "measure" and number == "19" and to != sorted(to):
+            count_places(to, case.line, seen, tally)
+
+
+def count_orders(asked, tally):
+    tally["tables"] += 1
+    tally["tables in three orders"] += len(asked.orders) == ORDERS
+    tally[asked.name] += 1
+    tally[f"width {asked.width}"] += 1
+    tally[f"kind {kind_of(asked.words)}"] += 1
+    for (name, to), words in zip(asked.orders, asked.reordered):
+        tally[f"order {name}"] += 1
+        tally["orders that move an entry"] += to != sorted(to)
+        tally["orders that change the words"] += words != asked.words
+        tally["orders that are not their own inverse"] += from_of(to) != to
+
+
+# ---------------------------------------------------------------------------- the second implementation, and twins
+
+def compare_second(case, tally):
+    for question, line in zip((case.question, *case.again), (case.line, *case.seen)):
+        probe.stop_at_difference(f"{case.asked.name}, by the second", question, line_of(question), line)
+        tally["by the second"] += 1
+        tally[f"by the second: {question[0]}"] += 1
+
+
+def second_cases(some, cases):
+    """Lines of every kind, all trees of some tables, and one with 256 entries."""
+    chosen = {id(asked) for number, asked in enumerate(some)
+              if asked.nodes is not None and (asked.width <= SMALL or number % SECOND_TABLES == 0)}
+    others = [case for case in cases if case.question[0] not in MAKING and len(case.asked.words) <= LONG]
+    trees = [case for case in cases if case.question[0] in MAKING and id(case.asked) in chosen]
+    many = [case for case in cases if case.asked.name == MANY and case.question[0] == "generate" and number_in(case.line) == "0"]
+    return others[::SECOND_EACH] + trees + many[:1]
+
+
+def compare_twins(path, cases, tally):
+    """A reordered table of the other kind."""
+    answered = [(case.asked.name, question, line) for case in cases[::TWINS_EACH] for question, line in zip(case.again, case.seen)]
+    twinned.compare(path, Twins(SEED), answered, tally)
+
+
+def check_examples(path):
+    for words, to, reordered in examples.REORDERED:
+        if shuffles.reordered(words, to) != reordered:
+            sys.exit(f"the order {to} gives another table than by hand: {probe.shown(words)}")
+    questions = [question for _, question, _ in examples.SHUFFLE_EXAMPLES]
+    for (name, question, expected), seen in zip(examples.SHUFFLE_EXAMPLES, probe.ask(path, questions), strict=True):
+        probe.stop_at_difference(name, question, expected, seen)
+
+
+# ---------------------------------------------------------------------------- what must be noticed
+
+@contextmanager
+def mistake_in(module, name, wrong):
+    """The second implementation with another function. The trees that it remembers are forgotten before and after."""
+    right = getattr(module, name)
+    setattr(module, name, wrong)
+    tree.nodes_once.cache_clear()
+    try:
+        yield
+    finally:
+        setattr(module, name, right)
+        tree.nodes_once.cache_clear()
+
+
+def by_second(case):
+    """The case with the second implementation's lines."""
+    return replace(case, line=line_of(case.question), seen=[line_of(question) for question in case.again])
+
+
+def asked_so(case, wrong):
+    """The case with other questions about the reordered tables."""
+    again = [wrong(case.question, question[1], to) for (_, to), question in zip(case.asked.orders, case.again)]
+    return by_second(replace(case, again=again))
+
+
+def reordered_so(case, wrong):
+    """The case with other tables for the reordered ones."""
+    again = [(question[0], wrong(case.question[1], to), *question[2:]) for (_, to), question in zip(case.asked.orders, case.again)]
+    return by_second(replace(case, again=again))
+
+
+def require_noticed(wrong, noticed):
+    if not noticed:
+        sys.exit(f"no table shows it: {wrong.__doc__}")
+
+
+# The calls whose lines show a mistake in a function of the second implementation.
+SHOWN_BY = {"select": ("lookup",), "chosen_bit": MAKING, "refusal_by_leaves": MAKING, "refusal_of": MAKING,
+            **{name: (name,) for name in ("generate", "measure", "decode", "encode", "cycles")}}
+
+
+def notice_wrong(cases):
+    """Among lines that are right, and the second implementation's too."""
+    some = [case for case in cases if case.asked.count > 1 and (case.asked.width <= SMALL or case.asked.name == MANY)]
+    for module, name, wrong in wrong_shuffles.WRONG_PROGRAMS:
+        with mistake_in(module, name, wrong):
+            require_noticed(wrong, any(differs(by_second(case)) for case in some if case.question[0] in SHOWN_BY[name]))
+    for wrong in wrong_shuffles.WRONG_LINES:
+        require_noticed(wrong, any(differs(case, wrong) for case in some))
+    for wrong in wrong_shuffles.WRONG_QUESTIONS:
+        require_noticed(wrong, any(differs(asked_so(case, wrong)) for case in some if case.question[0] in shuffles.TAKING))
+    for wrong in wrong_shuffles.WRONG_TABLES:
+        require_noticed(wrong, any(differs(reordered_so(case, wrong)) for case in some))
+
+
+WRONG_EXPECTATIONS = wrong_shuffles.WRONG_LINES, wrong_shuffles.WRONG_QUESTIONS, wrong_shuffles.WRONG_TABLES
+
+LEAST = {
+    "tables": 1100, "tables in three orders": 500, "orders that move an entry": 1900, "orders that change the words": 1900,
+    "orders that are not their own inverse": 780,
+    "order backwards": 410, "order first and last exchanged": 420, "order rotated": 450, "order drawn": 590, "order the only one": 260,
+    "kind 1": 550, "kind 6": 530, **{f"width {width}": 58 if width <= NARROW else 30 for width in range(1, 33)},
+    "lookup 0": 71000, "lookup 6": 6500, "lookup 7": 4200, "decode 0": 11000, "decode 6": 1400, "decode 7": 2100, "decode 10": 2100,
+    "encode 0": 3700, "encode 11": 4300, "encode 12": 5700, "encode 13": 3000, "cycles 0": 6800, "cycles 11": 2100,
+    "measure 0": 970, "measure 5": 10, "measure 6": 540, "measure 19": 630,
+    "generate 0": 1900, "generate 5": 6000, "generate 6": 1100, "generate 19": 1300,
+    **{f"kind {kind}: generate {number}": least for kind in (PLAIN, WITH_CYCLES)
+       for number, least in ((0, 900), (5, 3000), (6, 550), (19, 640))},
+    "generate 6, not word 0": 730, "measure 6, not word 0": 340, "lookup 6, not word 0": 6400, "decode 6, not word 0": 1300,
+    "lookup, another number in it": 32000, "decode, another number in it": 5800, "measure, another number in it": 400,
+    "encode, another entry asked": 11000, "cycles, another entry asked": 5300,
+    "leaves": 150000, "leaves with another number": 120000, "trees with a moved leaf": 1500, "tests": 180000, "nothings": 31000,
+    "words after a tree": 6400,
+    "19, another place": 400, "19, the same place": 150, "19, the moved entry": 410, "19, another entry": 140, "19, several": 87,
+    "19 by lookups": 130, "19 by the second": 190,
+    "nested: generate 0": 290, "joined: generate 0": 260, "divided: generate 0": 240, "divided: generate 19": 71,
+    "overlapping: generate 0": 66, "overlapping: generate 6": 200, "overlapping without conditions: generate 6": 300,
+    "unrelated: generate 0": 96, "unrelated: generate 6": 130, "entries twice: generate 6": 370,
+    "two that no word selects: generate 19": 310,
+    **{f"{how}: generate 19": 140 for how in tables.COVERS}, **{f"{how}, a word spared: generate 0": 140 for how in tables.COVERS},
+    "no entries: generate 0": 64, "one entry: generate 0": 44, "256 entries: generate 6": 36, f"{MANY}: generate 0": 24,
+    "longest: generate 0": 12, "at the limit: generate 0": 18, "at the limit: generate 5": 27, "at the limit, twice: generate 5": 6,
+    "at the limit, twice: generate 6": 6, "at the limit, excluded: generate 5": 6, "at the limit, excluded: generate 19": 6,
+    "one test over: generate 5": 36, "far over: generate 5": 4, "by hand: generate 0": 70, "by hand: generate 6": 40,
+    "by hand: generate 19": 60,
+    "by the second: lookup": 10000, "by the second: decode": 2000, "by the second: encode": 1900, "by the second: cycles": 1000,
+    "by the second: measure": 1100, "by the second: generate": 5300, "twins": 8600, "twins by the second": 430,
+}
+
+
+def ask_all(path, rng, some, tally):
+    """All cases with probe's lines. The lookups tell what no word selects, and the size of a tree what buffers it is asked with."""
+    of_table = [list(cases_on(rng, asked)) for asked in some]
+    cases = [case for its_cases in of_table for case in its_cases]
+    answer(path, cases)
+    for asked, its_cases in zip(some, of_table):
+        asked.size = its_cases[-1].line
+        if number_in(asked.size) == "19":
+            set_lowest(asked, its_cases, tally)
+    generating = [case for asked in some for case in generate_cases(rng, asked)]
+    answer(path, generating)
+    return cases + generating
+
+
+def summary(tally):
+    calls = ", ".join(f"{name}: {tally[name]}" for name in ("lookup", "decode", "encode", "cycles", "measure", "generate"))
+    generated = ", ".join(f"{what}: {tally[f'generate {number}']}" for what, number in (("tree", 0), ("5", 5), ("6", 6), ("19", 19)))
+    places = tally["19, the same place"] + tally["19, another place"]
+    programs, expectations = len(wrong_shuffles.WRONG_PROGRAMS), sum(map(len, WRONG_EXPECTATIONS))
+    return (f"compare_shuffle good: {tally['tables']} tables, {tally['tables in three orders']} of them in three other orders each, "
+            f"{tally['orders that move an entry']} orders in all; {tally['lines']} lines ({calls}); generate {generated}; "
+            f"{tally['leaves']} leaves, {tally['leaves with another number']} of them with another number, {tally['tests']} tests, "
+            f"{tally['nothings']} nothings; of {places} such orders with 19 {tally['19, another place']} have another place, "
+            f"{tally['19, another entry']} another entry than the moved one; by the second: {tally['by the second']}, "
+            f"to twins: {tally['twins']}; {len(examples.SHUFFLE_EXAMPLES)} examples by hand; {programs} wrong programs and {expectations} wrong expectations noticed")
+
+
+def main():
+    path = probe.path_from_arguments()
+    rng, tally = random.Random(SEED), Counter()
+    check_examples(path)
+    some = all_tables(rng)
+    for asked in some:
+        check_laid(asked)
+        count_orders(asked, tally)
+    cases = ask_all(path, rng, some, tally)
+    compare(cases, tally)
+    by_second_too = second_cases(some, cases)
+    for case in by_second_too:
+        compare_second(case, tally)
+    compare_twins(path, cases, tally)
+    probe.require_enough(tally, LEAST)
+    notice_wrong(by_second_too)
+    print(summary(tally))
+
+
+if __name__ == "__main__":
+    main()

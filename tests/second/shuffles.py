@@ -1,0 +1,146 @@
+"""Tables with their entries in another order, and what becomes of probe's lines (document 02's No. 12), from words and lines alone.
+
+An order is a list, always called `to`: entry e of the table is entry to[e] of the reordered one. Its inverse is "from": entry n of the
+reordered table was entry from[n] of the table. Nothing here uses the second implementation.
+"""
+
+from math import factorial
+
+from second.twins import spans
+
+OPEN = "?"              # stands for the place of 19: "though the lowest entry may differ"
+NAMING = ("2", "5")     # lookup and decode: an entry, or nothing
+GENERATE = "3"
+TAKING = ("encode", "cycles")   # calls that are asked about an entry
+
+
+# ---------------------------------------------------------------------------- orders
+
+def from_of(to):
+    return sorted(range(len(to)), key=lambda entry: to[entry])
+
+
+def backwards(count):
+    return [*range(count)][::-1]
+
+
+def ends_exchanged(count):
+    return [count - 1, *range(1, count - 1), 0]
+
+
+def rotated(count):
+    """Each entry goes one place on, and the last one to the front."""
+    return [*range(1, count), 0]
+
+
+def drawn(rng, count):
+    return rng.sample(range(count), count)
+
+
+def named_orders(rng, count):
+    """(name, to), without end. The same one may come again."""
+    yield from rng.sample([("backwards", backwards(count)), ("first and last exchanged", ends_exchanged(count)),
+                           ("rotated", rotated(count))], 2)
+    while True:
+        yield "drawn", drawn(rng, count)
+
+
+def some_orders(rng, count, most):
+    """(name, to): so many different orders that move an entry, or all of them if there are fewer. A table of one entry or none has only the
+    order that moves nothing."""
+    if count < 2:
+        return [("the only one", [*range(count)])]
+    orders = {}
+    for name, to in named_orders(rng, count):
+        if to != [*range(count)]:
+            orders.setdefault(tuple(to), name)
+        if len(orders) == min(most, factorial(count) - 1):
+            return [(name, list(to)) for to, name in orders.items()]
+
+
+# ---------------------------------------------------------------------------- tables and questions
+
+def reordered(words, to):
+    """The words of the reordered table; the first word stays, because kind, count and width do."""
+    entries = [words[head:end] for head, end in spans(words)]
+    return [words[0], *(word for entry in from_of(to) for word in entries[entry])]
+
+
+def moved_entry(entry, to):
+    """A number that no entry has stays."""
+    return to[entry] if entry < len(to) else entry
+
+
+def moved_question(question, words, to):
+    """The same question about the reordered table, which has these words; a call that is asked about an entry is asked about the moved
+    one."""
+    name, _, *rest = question
+    if name in TAKING:
+        rest[0] = moved_entry(rest[0], to)
+    return name, words, *rest
+
+
+# ---------------------------------------------------------------------------- lines
+
+def number_in(line):
+    return line.split(" ", 2)[1]
+
+
+def place_in(line):
+    return line.split(" ", 3)[2]
+
+
+def with_place(line, place):
+    request, number, _, rest = line.split(" ", 3)
+    return " ".join([request, number, place, rest])
+
+
+def place_left_open(line):
+    """Of 19 alone."""
+    return with_place(line, OPEN) if number_in(line) == "19" else line
+
+
+def opened_like(expected, seen):
+    """A line to compare with an expected one: where that leaves the place open, so does this."""
+    return place_left_open(seen) if place_in(expected) == OPEN else seen
+
+
+def moved_word(word, to):
+    """What a tree word becomes: kind 9 names the moved entry, every other word stays."""
+    return word & ~0xFF | moved_entry(word & 0xFF, to) if word >> 28 == 9 else word
+
+
+def with_tree(line, change, lent):
+    """The line of generating with each tree word changed, and after the tree the words of this buffer."""
+    front, _, back = line.partition(" |")
+    length = int(front.split(" ")[4])
+    tree = [change(int(word, 16)) for word in back.split()[:length]]
+    return " ".join([front, "|", *(f"{word:08x}" for word in [*tree, *lent[length:]])])
+
+
+def with_named(line, change):
+    """The line of lookup or decode with another entry; nothing stays nothing."""
+    front, bar, back = line.partition(" |")
+    *others, named = front.split(" ")
+    return " ".join([*others, named if named == "nothing" else str(change(int(named)))]) + bar + back
+
+
+def moved_line(line, to, lent=()):
+    """The line for the reordered table, from the one for the table and the order alone: of lookup, generate, measure, decode, encode or
+    cycles. For generate `lent` is the buffer lent for the reordered table, as long as the other. A refusal stays, but for the place of
+    19."""
+    request, number, _ = line.split(" ", 2)
+    if number != "0":
+        return place_left_open(line)
+    if request == GENERATE:
+        return with_tree(line, lambda word: moved_word(word, to), lent)
+    if request in NAMING:
+        return with_named(line, lambda entry: moved_entry(entry, to))
+    # A size, a word made or an entry's cycles.
+    return line
+
+
+def moved_text(text, to):
+    """What mktree prints for the reordered table, from what it prints for the table, which is a tree."""
+    lines = [line.split(" ") for line in text.splitlines()]
+    return "".join(f"{index} {moved_word(int(word, 16), to):08x}\n" for index, word in lines)
