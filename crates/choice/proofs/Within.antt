@@ -36,6 +36,10 @@ module _ (es us : List Entry) (to : ℕ → ℕ) (in-us : Within es us to) where
     passes : (i : ℕ) → i < length es → q (entryNumber us (to i)) ≡ q (entryNumber es i)
     passes i h = ap q (in-us .each i h)
 
+    -- entry m of es is entry j of us
+    passes-as : (j m : ℕ) → m < length es → to m ≡ j → q (entryNumber us j) ≡ true → q (entryNumber es m) ≡ true
+    passes-as j m l e t = sym (passes m l) ∙ ap (λ (x : ℕ). q (entryNumber us x)) e ∙ t
+
     pub over-back : (i : ℕ) → i < length es → Over us q (to i) → Over es q i
     over-back i h o j k d t =
         rw (in-us .each i h, in-us .each j k) at (o (to j) (in-us .inside j k) (λ e. d (in-us .once j i k h e)) (passes j k ∙ t))
@@ -43,14 +47,14 @@ module _ (es us : List Entry) (to : ℕ → ℕ) (in-us : Within es us to) where
     over-in : Covers es us to q → (i : ℕ) → i < length es → Over es q i → Over us q (to i)
     over-in covers i h o j k d t =
         let (m, l, e) = covers j k t in
-        rw (← e, in-us .each i h, in-us .each m l) (o m l (λ f. d (sym e ∙ ap to f)) (sym (passes m l) ∙ ap (λ (x : ℕ). q (entryNumber us x)) e ∙ t))
+        rw (← e, in-us .each i h, in-us .each m l) (o m l (λ f. d (sym e ∙ ap to f)) (passes-as j m l e t))
 
     pub some-moved : Covers es us to q → exists (λ i. q (entryNumber us i)) (length us) ≡ exists (λ i. q (entryNumber es i)) (length es)
     some-moved covers =
         same
         (λ t. let (j, k, p) = exists-at (λ i. q (entryNumber us i)) (length us) t in
         let (m, l, e) = covers j k p in
-        exists-make _ (length es) m l (sym (passes m l) ∙ ap (λ (x : ℕ). q (entryNumber us x)) e ∙ p))
+        exists-make _ (length es) m l (passes-as j m l e p))
         (λ t. let (i, h, p) = exists-at _ (length es) t in exists-make _ (length us) (to i) (in-us .inside i h) (passes i h ∙ p))
 
     pub count-in : howMany (λ i. q (entryNumber es i)) (length es) ≤ howMany (λ i. q (entryNumber us i)) (length us)

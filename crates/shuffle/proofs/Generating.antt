@@ -1,28 +1,29 @@
 -- Generating from two tables, the entries of the one in the other's order: the words of the trees, and what is judged of them. Assumes nothing.
-use Prim.Native.Nat.{ℕ, _+_, _<_}
+use Prim.Native.Nat.{ℕ, _+_, _^_, _<_}
 use native.Mathlib.Omega.{arith}
-use mathlib.Core.Path.{_≡_, refl, sym}
+use mathlib.Core.Path.{_≡_, refl, sym, ap, _∙_}
 use mathlib.Core.Logic.{_↔_, Iff·rfl}
 use mathlib.Core.Bool.{Bool, true, false}
-use mathlib.Core.List.{map}
+use mathlib.Core.List.{List, _++_, map}
 use mathlib.Core.Option.{Option, none, some, Option·none-ne-some}
 use lib.ListN.{length}
 use Rattle.words.specs.Words.{word}
-use Rattle.words.specs.Outcome.{Outcome, refused}
+use Rattle.words.specs.Outcome.{Outcome, result, refused}
 use Rattle.words.proofs.Outcomes.{not-refused, other-number}
 use Rattle.table.specs.Table.{Table, kindOf}
 use Rattle.choice.specs.Rule.{names}
 use Rattle.cell.specs.Cell.{start}
-use Rattle.tree.specs.Tree.{Tree, tree, size}
+use Rattle.flat.specs.Walk.{Walk, maskOf, walkOf}
+use Rattle.tree.specs.Tree.{Tree, tree, size, answer, named, asked}
 use Rattle.tree.specs.Written.{leafWord, written}
 use Rattle.tree.specs.Generate.{fits, judged, judgedIn}
 use Rattle.tree.proofs.Demand.{Sane}
-use Rattle.tree.proofs.Paths.{Sound, sound-tree}
+use Rattle.tree.proofs.Paths.{Sound, sound-tree, walk-written}
 use Rattle.tree.proofs.Reach.{leaf-exactly}
 use Rattle.shuffle.specs.Shuffled.{Shuffled}
-use Rattle.shuffle.specs.Moved.{movedTree, movedWord, Alike}
+use Rattle.shuffle.specs.Moved.{movedTree, movedWord, movedWalk, Alike}
 use Rattle.shuffle.proofs.Permutations.{turned}
-use Rattle.shuffle.proofs.Moving.{size-moved, conflict-moved, written-moved, written-named}
+use Rattle.shuffle.proofs.Moving.{size-moved, conflict-moved, asked-moved, answer-moved, named-moved, written-moved, written-named}
 use Rattle.shuffle.proofs.Shuffling.{all-moved, tree-shuffled}
 
 -- ---- the words
@@ -43,6 +44,20 @@ module _ (t u : Table) (wide : u .width ≡ t .width) (s : Shuffled (t .entries)
       let (e, named, q) = written-named (t .width) (sane .narrow) (tree (t .entries) (t .width)) sound small i h k in
       let (w, l, c) = leaf-exactly (t .entries) (t .width) (sane .good) e .0 named in
       (e, c .entry, q)
+
+  -- each word walks by the same tests to the moved entry, whatever words follow the trees
+  pub walks-shuffled : Sane u → (rest more : List ℕ) (w : ℕ) → w < 2 ^ (t .width)
+      → (a : Walk) × (walkOf (written (t .width) (tree (t .entries) (t .width)) ++ rest) w ≡ result a)
+      × (walkOf (written (u .width) (tree (u .entries) (u .width)) ++ more) w ≡ result (movedWalk (s .to) a))
+  walks-shuffled sane-u rest more w h =
+      let g : Tree = tree (t .entries) (t .width) in
+      let moved : tree (u .entries) (u .width) ≡ movedTree (s .to) g = ap (tree (u .entries)) wide ∙ tree-shuffled (t .entries) (u .entries) s (t .width) in
+      let sound-u = sound-tree (u .entries) (u .width) (sane-u .good) (sane-u .short) in (
+        record { entry = named (answer g w); count = length (asked g w); mask = maskOf (asked g w) },
+        walk-written (t .width) g rest w (sane .wide) (sane .narrow) (omega (arith, small)) sound h,
+        walk-written (u .width) (tree (u .entries) (u .width)) more w (sane-u .wide) (sane-u .narrow) (rw (moved, size-moved (s .to) g) (omega (arith, small))) sound-u (rw wide h)
+            ∙ rw (moved, answer-moved (s .to) g w, asked-moved (s .to) g w, named-moved (s .to) (answer g w)),
+      )
 
 -- ---- what is judged
 

@@ -1,5 +1,6 @@
--- The moved tree: its size, its depth, its first conflict, and its words. Assumes nothing.
---     size-moved, depth-moved, conflict-moved     they stay
+-- The moved tree: its size, its depth, its first conflict, its paths and its words. Assumes nothing.
+--     size-moved, depth-moved, conflict-moved, asked-moved     they stay, and so do the bits that a path tests
+--     answer-moved, named-moved     what a path names
 --     written-moved, leaf-moved     its words
 --     written-named     a word of kind 9 is that of a leaf of the tree
 use Prim.Native.Nat.{ℕ, zero, suc, _+_, _-_, _*_, _/_, _%_, _^_, _≤_, _<_, max}
@@ -7,18 +8,18 @@ use native.Mathlib.Omega.{arith}
 use mathlib.Core.Path.{_≡_, refl, sym, ap, ap₂, _∙_, subst}
 use mathlib.Core.Bool.{Bool, true, cond}
 use mathlib.Core.List.{List, [], _∷_, _++_, map, map-append}
-use mathlib.Core.Option.{orElse}
+use mathlib.Core.Option.{orElse, Option·map}
 use lib.Dec.{ltb}
 use lib.ListN.{length, List·getD-append}
 use lib.Seq.{getD-append-add}
 use borrow.Author.Tests.{ltb-true, ltb-false, ne-eqb}
-use Rattle.words.specs.Words.{word, part, bits}
+use Rattle.words.specs.Words.{word, part, bit, bits}
 use Rattle.words.proofs.Logic.{cases, or-il, or-ir}
 use Rattle.table.specs.Table.{kindOf}
 use Rattle.choice.specs.Rule.{Choice, names, nothing, ambiguous, movedChoice}
 use Rattle.choice.proofs.Judging.{names-selects}
 use Rattle.cell.specs.Cell.{Cell, zeroSide, oneSide}
-use Rattle.tree.specs.Tree.{Tree, leaf, test, size, depth, conflict}
+use Rattle.tree.specs.Tree.{Tree, leaf, test, size, depth, answer, named, asked, conflict}
 use Rattle.tree.specs.Written.{testWord, leafWord, headerWord, nodes, written}
 use Rattle.tree.specs.Reach.{namesEntry}
 use Rattle.tree.proofs.Paths.{Sound}
@@ -49,6 +50,22 @@ module _ (to : ℕ → ℕ) where
   conflict-moved (leaf nothing) c = refl
   conflict-moved (leaf ambiguous) c = refl
   conflict-moved (test b l r) c = ap₂ orElse (conflict-moved l (zeroSide c b)) (conflict-moved r (oneSide c b))
+
+  -- each word's path tests the same bits, and names the moved entry
+  pub asked-moved : (t : Tree) (w : ℕ) → asked (movedTree to t) w ≡ asked t w
+  unfolding movedTree asked
+  asked-moved (leaf a) w = refl
+  asked-moved (test b l r) w = ap₂ (λ (x y : List ℕ). b ∷ cond (bit w b) y x) (asked-moved l w) (asked-moved r w)
+
+  pub answer-moved : (t : Tree) (w : ℕ) → answer (movedTree to t) w ≡ movedChoice to (answer t w)
+  unfolding movedTree answer
+  answer-moved (leaf a) w = refl
+  answer-moved (test b l r) w = cases (bit w b) (λ e. rw e (answer-moved r w)) (λ e. rw e (answer-moved l w))
+
+  pub named-moved : (a : Choice) → named (movedChoice to a) ≡ Option·map to (named a)
+  named-moved (names e) = refl
+  named-moved nothing = refl
+  named-moved ambiguous = refl
 
   -- ---- its words
 

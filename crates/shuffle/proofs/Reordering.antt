@@ -1,13 +1,13 @@
 -- Document 02, No. 12, sentence by sentence, over the definitions that the calls' contracts cite. Assumes nothing.
 --   `maker::generate` answers `generateOf (readTable ws) (length out)` and leaves `bufferOf (readTable ws) out`; `maker::measure` answers
 --   `measureOf (readTable ws)`, `selection::lookup` `lookOf (readTable ws) w`, `operands::decode` `decodeOf (readTable ws) w (length out)`, whose
---   `bufferAfter` it leaves, and `operands::encode` `encodeOf (readTable ws) e values`.
+--   `bufferAfter` it leaves, `operands::encode` `encodeOf (readTable ws) e values`, and `walker::walk` `walkOf words w`.
 --     permuted (Permutations.antt)     every permutation of a list of entries is an order of it
 --     generated-alike, sized-alike     refused alike for 5, for 6 with the word, and for 19; else the same answer
---     word-moved, others-same, leaf-names     the words of the two trees
+--     word-moved, others-same, leaf-names, walk-moved     the words of the two trees, and their walks
 --     after-trees, refused-same     what stands after the trees, and what a refusal leaves
 --     lookup-moved, decode-moved, fields-same, encode-moved, reached-exactly     the other calls: the moved entry, and nothing else
-use Prim.Native.Nat.{ℕ, _+_, _<_}
+use Prim.Native.Nat.{ℕ, _+_, _^_, _<_}
 use native.Mathlib.Omega.{arith}
 use mathlib.Core.Path.{_≡_, sym, ap, ap₂, _∙_}
 use mathlib.Core.Logic.{_↔_}
@@ -20,18 +20,19 @@ use Rattle.table.specs.Check.{readTable}
 use Rattle.choice.specs.Rule.{names}
 use Rattle.selection.specs.Lookup.{lookOf}
 use Rattle.operands.specs.Calls.{Decoded, decodeOf, bufferAfter, encodeOf}
+use Rattle.flat.specs.Walk.{Walk, walkOf}
 use Rattle.tree.specs.Tree.{tree, size}
 use Rattle.tree.specs.Written.{leafWord, written}
 use Rattle.tree.specs.Generate.{measured, generateOf, bufferOf, surveyOf, measureOf}
-use Rattle.tree.proofs.Demand.{read-sane, judgement, flat-small, word-is, after-is, refused-zero}
+use Rattle.tree.proofs.Demand.{read-sane, judgement, flat-small, buffer-is, word-is, after-is, refused-zero}
 use Rattle.tree.proofs.Reach.{Reached}
 use Rattle.shuffle.specs.Shuffled.{Shuffled}
-use Rattle.shuffle.specs.Moved.{movedWord, movedAnswer, movedDecoded, Alike}
+use Rattle.shuffle.specs.Moved.{movedWord, movedWalk, movedAnswer, movedDecoded, Alike}
 use Rattle.shuffle.proofs.Permutations.{turned}
 use Rattle.shuffle.proofs.Answering.{look-shuffled, decode-shuffled, buffer-moved, encode-shuffled}
 use Rattle.shuffle.proofs.Moving.{size-moved, depth-moved, stays, leaf-moved}
 use Rattle.shuffle.proofs.Shuffling.{reached-moved}
-use Rattle.shuffle.proofs.Generating.{written-shuffled, names-entry, judged-shuffled}
+use Rattle.shuffle.proofs.Generating.{written-shuffled, names-entry, walks-shuffled, judged-shuffled}
 
 -- ---- two tables that read, of one width, the entries of the second in another order
 
@@ -85,6 +86,13 @@ module _ (ws vs : List ℕ) (t u : Table) (reads : readTable ws ≡ result t) (a
 
       pub after-trees : (drop n (bufferOf (readTable ws) out) ≡ drop n out) × (drop n (bufferOf (readTable vs) into) ≡ drop n into)
       after-trees = (after-is ws out t reads n generated, after-is vs into u also n again)
+
+      -- each word of the width walks by the same tests to the moved entry
+      pub walk-moved : (w : ℕ) → w < 2 ^ (t .width)
+          → (a : Walk) × (walkOf (bufferOf (readTable ws) out) w ≡ result a) × (walkOf (bufferOf (readTable vs) into) w ≡ result (movedWalk (s .to) a))
+      walk-moved w h =
+          rw (buffer-is ws out t reads n generated, buffer-is vs into u also n again)
+          (walks-shuffled t u wide s (read-sane ws t reads) (flat-small ws out t reads n generated) (read-sane vs u also) _ _ w h)
 
       -- "at the same indices"
       module _ (i : ℕ) (h : i < n) where

@@ -3,13 +3,14 @@ use Prim.Native.Nat.{ℕ}
 use mathlib.Core.Path.{_≡_}
 use mathlib.Core.Bool.{cond}
 use mathlib.Core.Logic.{_↔_}
-use mathlib.Core.Option.{Option, none, some}
+use mathlib.Core.Option.{Option, Option·map}
 use lib.Dec.{eqb}
 use Rattle.words.specs.Words.{bits}
 use Rattle.words.specs.Outcome.{Outcome, result, faulty, refused}
 use Rattle.table.specs.Table.{kindOf}
 use Rattle.choice.specs.Rule.{names, movedChoice}
 use Rattle.operands.specs.Calls.{Decoded, entry-values, none-selected}
+use Rattle.flat.specs.Walk.{Walk}
 use Rattle.tree.specs.Tree.{Tree, leaf, test}
 use Rattle.tree.specs.Written.{leafWord}
 
@@ -22,10 +23,13 @@ movedTree to (test b l r) = test b (movedTree to l) (movedTree to r)
 unfoldable pub movedWord : (ℕ → ℕ) → ℕ → ℕ
 movedWord to w = cond (eqb (kindOf w) 9) (leafWord (names (to (bits 7 0 w)))) w
 
+-- and of what a walk answers: the same count and mask
+abbrev pub movedWalk : (ℕ → ℕ) → Walk → Walk
+movedWalk to a = record { entry = Option·map to (a .entry); count = a .count; mask = a .mask }
+
 -- and of what lookup answers, and decoding, with the values of the fields as they were
 abbrev pub movedAnswer : (ℕ → ℕ) → Outcome (Option ℕ) → Outcome (Option ℕ)
-movedAnswer to (result (some e)) = result (some (to e))
-movedAnswer to (result none) = result none
+movedAnswer to (result o) = result (Option·map to o)
 movedAnswer to (faulty n p) = faulty n p
 movedAnswer to (refused n p w) = refused n p w
 
