@@ -3,10 +3,11 @@
 --   `measureOf (readTable ws)`, `selection::lookup` `lookOf (readTable ws) w`, `operands::decode` `decodeOf (readTable ws) w (length out)`, whose
 --   `bufferAfter` it leaves, `operands::encode` `encodeOf (readTable ws) e values`, and `walker::walk` `walkOf words w`.
 --     permuted (Permutations.antt)     every permutation of a list of entries is an order of it
---     generated-alike, sized-alike     refused alike for 5, for 6 with the word, and for 19; else the same answer
+--     generated-alike     refused alike for 5, for 6 with the word, and for 19; else the same length
+--     refused-same, after-trees     what a refusal leaves, and what stands after the trees
 --     word-moved, others-same, leaf-names, walk-moved     the words of the two trees, and their walks
---     after-trees, refused-same     what stands after the trees, and what a refusal leaves
---     lookup-moved, decode-moved, fields-same, encode-moved, reached-exactly     the other calls: the moved entry, and nothing else
+--     reached-alike     who is reached
+--     sized-alike, lookup-moved, decode-moved, fields-same, encode-moved     the other calls: the moved entry, and nothing else
 use Prim.Native.Nat.{ℕ, _+_, _^_, _<_}
 use native.Mathlib.Omega.{arith}
 use mathlib.Core.Path.{_≡_, sym, ap, ap₂, _∙_}
@@ -38,34 +39,6 @@ use Rattle.shuffle.proofs.Generating.{written-shuffled, names-entry, wa
 
 module _ (ws vs : List ℕ) (t u : Table) (reads : readTable ws ≡ result t) (also : readTable vs ≡ result u) (wide : u .width ≡ t .width)
     (s : Shuffled (t .entries) (u .entries)) where
-  -- lookup answers the moved entry
-  pub lookup-moved : (w : ℕ) → lookOf (readTable vs) w ≡ movedAnswer (s .to) (lookOf (readTable ws) w)
-  lookup-moved w = rw (reads, also) (look-shuffled t u wide s w)
-
-  -- decoding answers it and leaves the same field values, and encoding it gives the same
-  pub decode-moved : (w room : ℕ) → decodeOf (readTable vs) w room ≡ movedDecoded (s .to) (decodeOf (readTable ws) w room)
-  decode-moved w room = rw (reads, also) (decode-shuffled t u wide s w room)
-
-  pub fields-same : (w : ℕ) (out : List ℕ) → bufferAfter (decodeOf (readTable vs) w (length out)) out ≡ bufferAfter (decodeOf (readTable ws) w (length out)) out
-  fields-same w out = ap (λ (r : Outcome Decoded). bufferAfter r out) (decode-moved w (length out)) ∙ buffer-moved (s .to) (decodeOf (readTable ws) w (length out)) out
-
-  pub encode-moved : (e : ℕ) → e < length (t .entries) → (values : List ℕ) → encodeOf (readTable vs) (s .to e) values ≡ encodeOf (readTable ws) e values
-  encode-moved e h values = rw (reads, also) (encode-shuffled t u s e h values)
-
-  -- "some entry is selected by no word of the width" in the one table exactly when the moved one is in the other
-  pub reached-exactly : (e : ℕ) → e < length (t .entries) → (Reached (t .entries) (t .width) e) ↔ (Reached (u .entries) (u .width) (s .to e))
-  reached-exactly e h = (
-    λ r. rw wide (reached-moved (t .entries) (u .entries) s (t .width) e r),
-    λ r. rw (s .from-to e h) at (reached-moved (u .entries) (t .entries) (turned s) (t .width) (s .to e) (rw wide at r)),
-  )
-
-  -- sizing is refused alike, and else has the same numbers
-  pub sized-alike : Alike (measureOf (readTable ws)) (measureOf (readTable vs))
-  unfolding measureOf surveyOf
-  sized-alike =
-      rw (reads, also)
-      (judged-shuffled t u wide s 16384 measured (λ g. ap₂ (λ (n d : ℕ). record { nodes = n; tests = d }) (size-moved (s .to) g) (depth-moved (s .to) g)))
-
   -- ---- "generating into equally long buffers"
 
   module _ (out into : List ℕ) (long : length into ≡ length out) where
@@ -125,3 +98,35 @@ module _ (ws vs : List ℕ) (t u : Table) (reads : readTable ws ≡ result t) (a
             let (e, l, q) = names-entry t u wide s sane (flat-small ws out t reads n generated) i (omega (arith, judgement ws out t reads n generated .1)) (ap kindOf (sym at-i) ∙ k) in
             let few : e < 256 = omega (arith, sane .short) in
             (e, l, at-i ∙ q, word-moved ∙ ap (movedWord (s .to)) (at-i ∙ q) ∙ sym (leaf-moved (s .to) (names e) (λ d p. let z : e ≡ d = cc in rw z at few)), s .each e l)
+
+  -- ---- "For 19 the two tables are refused alike, though the lowest entry may differ"
+
+  -- an entry is selected by some word of the width exactly when the moved one is (that the place may differ: Examples.antt, lowest-differs)
+  pub reached-alike : (e : ℕ) → e < length (t .entries) → (Reached (t .entries) (t .width) e) ↔ (Reached (u .entries) (u .width) (s .to e))
+  reached-alike e h = (
+    λ r. rw wide (reached-moved (t .entries) (u .entries) s (t .width) e r),
+    λ r. rw (s .from-to e h) at (reached-moved (u .entries) (t .entries) (turned s) (t .width) (s .to e) (rw wide at r)),
+  )
+
+  -- ---- "must change no more than entry numbers"
+
+  -- sizing is refused alike, and else has the same numbers
+  pub sized-alike : Alike (measureOf (readTable ws)) (measureOf (readTable vs))
+  unfolding measureOf surveyOf
+  sized-alike =
+      rw (reads, also)
+      (judged-shuffled t u wide s 16384 measured (λ g. ap₂ (λ (n d : ℕ). record { nodes = n; tests = d }) (size-moved (s .to) g) (depth-moved (s .to) g)))
+
+  -- lookup answers the moved entry
+  pub lookup-moved : (w : ℕ) → lookOf (readTable vs) w ≡ movedAnswer (s .to) (lookOf (readTable ws) w)
+  lookup-moved w = rw (reads, also) (look-shuffled t u wide s w)
+
+  -- decoding answers it and leaves the same field values, and encoding it gives the same
+  pub decode-moved : (w room : ℕ) → decodeOf (readTable vs) w room ≡ movedDecoded (s .to) (decodeOf (readTable ws) w room)
+  decode-moved w room = rw (reads, also) (decode-shuffled t u wide s w room)
+
+  pub fields-same : (w : ℕ) (out : List ℕ) → bufferAfter (decodeOf (readTable vs) w (length out)) out ≡ bufferAfter (decodeOf (readTable ws) w (length out)) out
+  fields-same w out = ap (λ (r : Outcome Decoded). bufferAfter r out) (decode-moved w (length out)) ∙ buffer-moved (s .to) (decodeOf (readTable ws) w (length out)) out
+
+  pub encode-moved : (e : ℕ) → e < length (t .entries) → (values : List ℕ) → encodeOf (readTable vs) (s .to e) values ≡ encodeOf (readTable ws) e values
+  encode-moved e h values = rw (reads, also) (encode-shuffled t u s e h values)
