@@ -66,4 +66,4 @@ module _ (t u : Table) (s : Shuffled (t .entries) (u .entries)) (e : ℕ) (h : e
 
   pub encode-shuffled : (vs : List ℕ) → encodeOf (result u) (s .to e) vs ≡ encodeOf (result t) e vs
   unfolding encodeOf
-  encode-shuffled vs = rw (s .long, lt-ltb _ _ h, lt-ltb _ _ (s .to-inside e h), s .each e h, encoded vs (misfit 0 (entryNumber (t .entries) e .fields) vs))
+  encode-shuffled vs = rw (lt-ltb _ _ h, lt-ltb _ _ (s .to-inside e h), s .each e h, encoded vs (misfit 0 (entryNumber (t .entries) e .fields) vs))

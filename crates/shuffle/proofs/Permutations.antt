@@ -10,16 +10,14 @@ use Rattle.shuffle.specs.Shuffled.{Shuffled}
 -- the other way round
 abbrev pub turned : {es fs : List Entry} → Shuffled es fs → Shuffled fs es
 turned {es} {fs} s =
-    let in-es : (i : ℕ) → i < length fs → i < length es = λ i h. rw (s .long) at h in
     record {
       to = s .from;
       from = s .to;
-      long = sym (s .long);
-      to-inside = λ i h. rw (s .long) (s .from-inside i (in-es i h));
-      from-inside = λ e h. rw (s .long) (s .to-inside e (in-es e h));
-      from-to = λ i h. s .to-from i (in-es i h);
-      to-from = λ e h. s .from-to e (in-es e h);
-      each = λ i h. let k = in-es i h in sym (s .each (s .from i) (s .from-inside i k)) ∙ ap (entryNumber fs) (s .to-from i k);
+      to-inside = s .from-inside;
+      from-inside = s .to-inside;
+      from-to = s .to-from;
+      to-from = s .from-to;
+      each = λ i h. sym (s .each (s .from i) (s .from-inside i h)) ∙ ap (entryNumber fs) (s .to-from i h);
     }
 
 -- ---- the four ways in which a permutation is made
@@ -35,7 +33,6 @@ order-none =
     record {
       to = λ e. e;
       from = λ i. i;
-      long = refl;
       to-inside = λ e h. h;
       from-inside = λ i h. h;
       from-to = λ e h. refl;
@@ -53,8 +50,7 @@ order-under {a} {b} {es} {fs} q s =
     record {
       to = under (s .to);
       from = under (s .from);
-      long = ap suc (s .long);
-      to-inside = each-of (λ e. under (s .to) e < suc (length es)) (suc-le-suc zero-le) (λ e h. suc-le-suc (s .to-inside e h));
+      to-inside = each-of (λ e. under (s .to) e < suc (length fs)) (suc-le-suc zero-le) (λ e h. suc-le-suc (s .to-inside e h));
       from-inside = each-of (λ i. under (s .from) i < suc (length es)) (suc-le-suc zero-le) (λ i h. suc-le-suc (s .from-inside i h));
       from-to = each-of (λ e. under (s .from) (under (s .to) e) ≡ e) refl (λ e h. ap suc (s .from-to e h));
       to-from = each-of (λ i. under (s .to) (under (s .from) i) ≡ i) refl (λ i h. ap suc (s .to-from i h));
@@ -87,7 +83,6 @@ order-exchange {a} {b} {c} {d} {es} p q =
     record {
       to = exchange;
       from = exchange;
-      long = refl;
       to-inside = exchange-inside (length es);
       from-inside = exchange-inside (length es);
       from-to = λ e h. exchange-twice e;
@@ -98,19 +93,14 @@ order-exchange {a} {b} {c} {d} {es} p q =
 -- one after the other
 abbrev order-after : {es fs gs : List Entry} → Shuffled es fs → Shuffled fs gs → Shuffled es gs
 order-after {es} {fs} {gs} s r =
-    let in-fs : (i : ℕ) → i < length es → i < length fs = λ i h. rw (s .long) h in
-    let in-es : (i : ℕ) → i < length fs → i < length es = λ i h. rw (s .long) at h in
-    let to-fs : (e : ℕ) → e < length es → s .to e < length fs = λ e h. in-fs (s .to e) (s .to-inside e h) in
-    let from-es : (i : ℕ) → i < length es → r .from i < length es = λ i h. in-es (r .from i) (r .from-inside i (in-fs i h)) in
     record {
       to = λ e. r .to (s .to e);
       from = λ i. s .from (r .from i);
-      long = r .long ∙ s .long;
-      to-inside = λ e h. in-es (r .to (s .to e)) (r .to-inside (s .to e) (to-fs e h));
-      from-inside = λ i h. s .from-inside (r .from i) (from-es i h);
-      from-to = λ e h. ap (s .from) (r .from-to (s .to e) (to-fs e h)) ∙ s .from-to e h;
-      to-from = λ i h. ap (r .to) (s .to-from (r .from i) (from-es i h)) ∙ r .to-from i (in-fs i h);
-      each = λ e h. r .each (s .to e) (to-fs e h) ∙ s .each e h;
+      to-inside = λ e h. r .to-inside (s .to e) (s .to-inside e h);
+      from-inside = λ i h. s .from-inside (r .from i) (r .from-inside i h);
+      from-to = λ e h. ap (s .from) (r .from-to (s .to e) (s .to-inside e h)) ∙ s .from-to e h;
+      to-from = λ i h. ap (r .to) (s .to-from (r .from i) (r .from-inside i h)) ∙ r .to-from i h;
+      each = λ e h. r .each (s .to e) (s .to-inside e h) ∙ s .each e h;
     }
 
 unfoldable pub permuted : {es fs : List Entry} → List·Permᴰ es fs → Shuffled es fs

@@ -33,14 +33,14 @@ use Rattle.shuffle.proofs.Permutations.{turned}
 pub within : (es fs : List Entry) (s : Shuffled es fs) → Within es fs (s .to)
 within es fs s =
     record {
-      inside = λ e h. rw (s .long) (s .to-inside e h);
+      inside = s .to-inside;
       once = λ d e h k q. sym (s .from-to d h) ∙ ap (s .from) q ∙ s .from-to e k;
       each = s .each;
     }
 
 module _ (es fs : List Entry) (s : Shuffled es fs) where
   all-there : (q : Entry → Bool) → Covers es fs (s .to) q
-  all-there q i h t = let k : i < length es = rw (s .long) at h in (s .from i, s .from-inside i k, s .to-from i k)
+  all-there q i h t = (s .from i, s .from-inside i h, s .to-from i h)
 
   -- ---- selection
 
@@ -56,8 +56,8 @@ module _ (es fs : List Entry) (s : Shuffled es fs) where
   -- so every entry is reached in both
   pub all-moved : (width : ℕ) → lowestUnreached es width ≡ none → lowestUnreached fs width ≡ none
   all-moved width q =
-      none-exactly fs width .1 (λ i h. let k : i < length es = rw (s .long) at h in
-      subst (Reached fs width) (s .to-from i k) (reached-moved width (s .from i) (none-exactly es width .0 q (s .from i) (s .from-inside i k))))
+      none-exactly fs width .1
+      (λ i h. subst (Reached fs width) (s .to-from i h) (reached-moved width (s .from i) (none-exactly es width .0 q (s .from i) (s .from-inside i h))))
 
   -- ---- the bit to test: some entry passes in both, and as many do
 

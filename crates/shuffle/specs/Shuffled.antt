@@ -9,9 +9,8 @@ use Rattle.table.specs.Table.{Entry, entryNumber}
 pub record Shuffled (es fs : List Entry) : Type 0 where
   pub to : ℕ → ℕ
   pub from : ℕ → ℕ
-  pub long : length fs ≡ length es
-  pub to-inside : (e : ℕ) → e < length es → to e < length es
-  pub from-inside : (i : ℕ) → i < length es → from i < length es
+  pub to-inside : (e : ℕ) → e < length es → to e < length fs
+  pub from-inside : (i : ℕ) → i < length fs → from i < length es
   pub from-to : (e : ℕ) → e < length es → from (to e) ≡ e
-  pub to-from : (i : ℕ) → i < length es → to (from i) ≡ i
+  pub to-from : (i : ℕ) → i < length fs → to (from i) ≡ i
   pub each : (e : ℕ) → e < length es → entryNumber fs (to e) ≡ entryNumber es e
