@@ -523,7 +523,7 @@ LEAST = {
     "19, another place": 400, "19, the same place": 150, "19, the moved entry": 410, "19, another entry": 140, "19, several": 87,
     "19 by lookups": 130, "19 by the second": 190,
     "nested: generate 0": 290, "joined: generate 0": 260, "divided: generate 0": 240, "divided: generate 19": 71,
-    "overlapping: generate 0": 66, "overlapping: generate 6": 200, "overlapping without conditions: generate 6": 300,
+    "overlapping: generate 0": 55, "overlapping: generate 6": 200, "overlapping without conditions: generate 6": 300,
     "unrelated: generate 0": 96, "unrelated: generate 6": 130, "entries twice: generate 6": 370,
     "two that no word selects: generate 19": 310,
     **{f"{how}: generate 19": 140 for how in tables.COVERS}, **{f"{how}, a word spared: generate 0": 140 for how in tables.COVERS},
