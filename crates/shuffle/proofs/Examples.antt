@@ -1,4 +1,4 @@
--- Tables in another order, from their words: the lookups, the trees and 19, computed. Assumes nothing.
+-- Tables in another order, from their words: the lookups, the trees, 6, 5 and 19, computed. Assumes nothing.
 use Prim.Native.Nat.{ℕ}
 use mathlib.Core.Path.{_≡_, refl}
 use mathlib.Core.List.{List, [], _∷_, map, List·Permᴰ·cons, List·Permᴰ·swap, List·Permᴰ·trans}
@@ -7,7 +7,7 @@ use Rattle.words.specs.Outcome.{result, refused}
 use Rattle.table.specs.Table.{tableOf}
 use Rattle.table.specs.Check.{readTable}
 use Rattle.table.proofs.Examples.{opened}
-use Rattle.selection.proofs.Examples.{looks, three}
+use Rattle.selection.proofs.Examples.{looks, two, three}
 use Rattle.tree.specs.Generate.{generateOf, bufferOf}
 use Rattle.tree.proofs.Examples.{answered}
 use Rattle.shuffle.specs.Shuffled.{Shuffled}
@@ -57,6 +57,19 @@ last-first-tree = refl
 moved-words : map (movedWord (order .to)) (0x81000005 ∷ 0x90000002 ∷ 0x90000000 ∷ 0x90000001 ∷ 0xa0000000 ∷ []) ≡ 0x81000005 ∷ 0x90000000 ∷ 0x90000001 ∷ 0x90000002 ∷ 0xa0000000 ∷ []
 unfolding order answered movedWord
 moved-words = refl
+
+-- ---- 0-- and --0, and the same with the last one first: 6 with word 0 in eight words, 5 in seven
+
+abbrev two-turned : List ℕ
+two-turned = 0x10020003 ∷ 0x20000310 ∷ 1 ∷ 0 ∷ 0x30000102 ∷ 0x20000310 ∷ 4 ∷ 0 ∷ 0x30000002 ∷ []
+
+both-ambiguous : generateOf (readTable two) 8 ∷ generateOf (readTable two-turned) 8 ∷ [] ≡ refused 6 0 0 ∷ refused 6 0 0 ∷ []
+unfolding answered
+both-ambiguous = refl
+
+both-short : generateOf (readTable two) 7 ∷ generateOf (readTable two-turned) 7 ∷ [] ≡ refused 5 0 0 ∷ refused 5 0 0 ∷ []
+unfolding answered
+both-short = refl
 
 -- ---- 19: two entries that match every word, a and b, and 0 and 1; and 0, 1, b, a. The place is that of a, and that of b
 

@@ -7,7 +7,7 @@
 --     refused-same, after-trees     what a refusal leaves, and what stands after the trees
 --     word-moved, others-same, leaf-names, walk-moved     the words of the two trees, and their walks
 --     reached-alike     who is reached
---     sized-alike, lookup-moved, decode-moved, fields-same, encode-moved     the other calls: the moved entry, and nothing else
+--     entries-same, sized-alike, lookup-moved, decode-moved, fields-same, encode-moved     the other calls: the moved entry, and nothing else
 use Prim.Native.Nat.{ℕ, _+_, _^_, _<_}
 use native.Mathlib.Omega.{arith}
 use mathlib.Core.Path.{_≡_, sym, ap, ap₂, _∙_}
@@ -32,7 +32,7 @@ use Rattle.shuffle.specs.Moved.{movedWord, movedWalk, movedAnswer, moved
 use Rattle.shuffle.proofs.Permutations.{turned}
 use Rattle.shuffle.proofs.Answering.{look-shuffled, decode-shuffled, buffer-moved, encode-shuffled}
 use Rattle.shuffle.proofs.Moving.{size-moved, depth-moved, stays, leaf-moved}
-use Rattle.shuffle.proofs.Shuffling.{reached-moved}
+use Rattle.shuffle.proofs.Shuffling.{reached-moved, as-many}
 use Rattle.shuffle.proofs.Generating.{written-shuffled, names-entry, walks-shuffled, judged-shuffled}
 
 -- ---- two tables that read, of one width, the entries of the second in another order
@@ -109,6 +109,10 @@ module _ (ws vs : List ℕ) (t u : Table) (reads : readTable ws ≡ result t) (a
   )
 
   -- ---- "must change no more than entry numbers"
+
+  -- the tables have as many entries
+  pub entries-same : length (u .entries) ≡ length (t .entries)
+  entries-same = as-many (t .entries) (u .entries) s
 
   -- sizing is refused alike, and else has the same numbers
   pub sized-alike : Alike (measureOf (readTable ws)) (measureOf (readTable vs))

@@ -1,6 +1,7 @@
 -- Two lists, the one in the other's order: what a word selects, who is reached, the tree. Assumes nothing.
 --     select-shuffled, selects-shuffled     what a word selects is the moved entry
 --     reached-moved, all-moved     an entry that some word selects; every entry is one
+--     as-many     the two have as many entries
 --     tree-shuffled     the tree is the moved tree
 use Prim.Native.Nat.{ℕ, zero, suc, _<_}
 use native.Mathlib.Nat.{le-antisymm}
@@ -66,6 +67,15 @@ module _ (es fs : List Entry) (s : Shuffled es fs) where
 
   count-same : (q : Entry → Bool) → howMany (λ j. q (entryNumber fs j)) (length fs) ≡ howMany (λ j. q (entryNumber es j)) (length es)
   count-same q = le-antisymm (count-in fs es (s .from) (within fs es (turned s)) q) (count-in es fs (s .to) (within es fs s) q)
+
+  -- so there are as many entries
+  all-pass : (n : ℕ) → howMany (λ i. true) n ≡ n
+  unfolding howMany
+  all-pass zero = refl
+  all-pass (suc n) = ap suc (all-pass n)
+
+  pub as-many : length fs ≡ length es
+  as-many = sym (all-pass (length fs)) ∙ count-same (λ e. true) ∙ all-pass (length es)
 
   abbrev votes : List Entry → Cell → ℕ → ℕ
   votes l c = votesAt (entryNumber l) (λ j. openEntry c (entryNumber l j)) (length l) (c .fixed)
