@@ -18,7 +18,7 @@ use Rattle.choice.specs.Rule.{Choice, names, nothing, ambiguous, matches, judge
 use Rattle.selection.specs.Selection.{satisfied, claims}
 use Rattle.cell.specs.Cell.{Cell, zeroSide, oneSide, implies, clashes, holds, fails, openCondition, dead, live, sure, openEntry}
 use Rattle.cell.specs.Step.{end, split, stepOf, free, votesAt, inCondition, inOpen, wantedAt, testedAt, settledAt, stepAt, step}
-use Rattle.words.proofs.Bits.{and-assoc, and-or, and-pow, missing, bit-or, bit-pow, bit-pow-other}
+use Rattle.words.proofs.Bits.{and-assoc, and-or, and-pow, missing, set-own, set-other}
 use Rattle.words.proofs.Logic.{cases, clash, isFalse, and-l, and-r, and-i, and-e, or-l, or-r, or-il, or-ir, or-e, not-t, not-f, not-it, not-if, anyOf-map, allOf-none, exists-at, exists-make, howMany-pos, best-max, best-lt, howMany-less}
 
 -- the word is in the cell
@@ -158,11 +158,6 @@ pos-of-ne : {x : ℕ} → (x ≡ 0 → ⊥) → 0 < x
 pos-of-ne {x = zero} h = absurd (h refl)
 pos-of-ne {x = suc x} h = zero-lt-suc x
 
-or-false : (b : Bool) → b or false ≡ b
-unfolding _or_
-or-false true = refl
-or-false false = refl
-
 module _ (es : List Entry) (width : ℕ) (c : Cell) (g : goodTable width es ≡ true) where
   pub good-at : (j : ℕ) → j < length es → goodEntry width (entryNumber es j) ≡ true
   unfolding goodTable
@@ -247,8 +242,8 @@ module _ (c : Cell) (i : ℕ) where
   unfolding free
   free-less width h b =
       howMany-less (λ j. not (bit (c .fixed) j)) (λ j. not (bit (bitOr (c .fixed) (2 ^ i)) j)) width i h (not-it b)
-      (not-if (bit-or (c .fixed) (2 ^ i) i ∙ or-ir _ (bit-pow i)))
-      (λ j k. ap not (bit-or (c .fixed) (2 ^ i) j ∙ ap (λ (b : Bool). bit (c .fixed) j or b) (bit-pow-other i j k) ∙ or-false (bit (c .fixed) j)))
+      (not-if (set-own (c .fixed) i))
+      (λ j k. ap not (set-other (c .fixed) i j k))
 
   -- the number of unfixed bits falls with each tested bit
   pub fewer : (width fx : ℕ) → i < width → bit (c .fixed) i ≡ false → fx ≡ bitOr (c .fixed) (2 ^ i) → free width fx < free width (c .fixed)

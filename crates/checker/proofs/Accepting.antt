@@ -135,10 +135,10 @@ step-two ambiguous h = absurd (false≢true h)
 no-index : (e : ℕ) → No ≡ At e → ⊥
 no-index e h = let z : _≡_ {A = ℕ} 0 1 = cc in omega arith
 
-not-conflict : (e : ℕ) → names e ≡ ambiguous → ⊥
+pub not-conflict : (e : ℕ) → names e ≡ ambiguous → ⊥
 not-conflict e h = let z : _≡_ {A = ℕ} 0 1 = cc in omega arith
 
-nothing-clear : nothing ≡ ambiguous → ⊥
+pub nothing-clear : nothing ≡ ambiguous → ⊥
 nothing-clear h = let z : _≡_ {A = ℕ} 0 1 = cc in omega arith
 
 same-index : (i e : ℕ) → At i ≡ At e → i ≡ e
@@ -157,7 +157,7 @@ module _ (es : List Entry) (ws : List ℕ) (width n : ℕ) where
   unfolding Agrees Sound Stands size Says
   held-names c i e x d h =
       let s = provided-at (selects (settled es c) x) (At (i + 1)) e h in
-      let w : Says width (Names x) = rw d at (node-says width n i (word ws i)) in
+      let w : Says width n i (Names x) = rw d at (node-says width n i (word ws i)) in
       record {
         held = leaf (names x);
         right = (sym (selects-names (settled es c) x (s .0)), not-conflict x);
@@ -182,7 +182,7 @@ module _ (es : List Entry) (ws : List ℕ) (width n : ℕ) where
       → Held (zeroSide c b) (i + 1) k → Held (oneSide c b) k e → Held c i e
   unfolding Agrees Sound Stands size Says
   held-test c i e b k d f zs os =
-      let w : Says width (Asks b k) = rw d at (node-says width n i (word ws i)) in
+      let w : Says width n i (Asks b k) = rw d at (node-says width n i (word ws i)) in
       let q : i + 1 + size (zs .held) ≡ k = zs .ends in
       record {
         held = test b (zs .held) (os .held);

@@ -144,9 +144,9 @@ module _ (ws : List ℕ) (width n w : ℕ) where
       (λ d. absurd (broken 9 i e bs (rw d at h)))
       (λ b k d.
       let s = after-arrives b _ e bs (rw d at h) in
-      let low : Says width (Asks b k) = rw d at (node-says width n i (word ws i)) in
+      let low : Says width n i (Asks b k) = rw d at (node-says width n i (word ws i)) in
       let here : eqb j b or isIn j (s .0) ≡ true = rw (s .2) at t in
-      cases (eqb j b) (λ q. rw (eqb-true j b q) low) (λ q. path-low fuel (cond (bit w b) k (i + 1)) e (s .0) (s .1) j (or-e here q)))
+      cases (eqb j b) (λ q. rw (eqb-true j b q) (low .0, low .1)) (λ q. path-low fuel (cond (bit w b) k (i + 1)) e (s .0) (s .1) j (or-e here q)))
       (λ x d. absurd (none-in j bs _ e (rw d at h) t))
       (λ d. absurd (none-in j bs _ e (rw d at h) t))
 

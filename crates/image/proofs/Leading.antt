@@ -4,17 +4,19 @@ use mathlib.Core.List.{List, [], _∷_}
 use Prim.Native.Nat.{ℕ, zero, suc, _+_, _-_, _*_, _^_, _≤_, _<_}
 use native.Mathlib.Nat.{le-refl}
 use native.Mathlib.Omega.{arith}
-use borrow.Author.Tests.{lt-ltb, le-ltb, ltb-true, ltb-false}
-use lib.Dec.{ltb}
+use borrow.Author.Tests.{lt-ltb, le-ltb, ltb-true}
+use lib.Dec.{eqb, ltb}
 use Rattle.words.specs.Words.{part, bits}
 use Rattle.words.proofs.Logic.{cases}
-use Rattle.table.specs.Table.{Entry}
+use Rattle.table.specs.Table.{Entry, entryNumber}
+use Rattle.choice.specs.Rule.{Choice, names, nothing, ambiguous}
+use Rattle.selection.specs.Selection.{select}
 use Rattle.image.specs.declared.HalfwordAddress.{HalfwordAddress}
 use Rattle.image.specs.declared.Item.{Item}
 use Rattle.image.specs.declared.Picked.{Picked}
-use Rattle.image.specs.declared.Picked.the-variants.{Short, Long, Nothing}
-use Rattle.image.specs.Address.{after, wordAt, halfwords}
-use Rattle.image.specs.Items.{picked, foundWord, nothingWord, cutWord, itemOf, itemAt, itemsFrom, items}
+use Rattle.image.specs.declared.Picked.the-variants.{Short, Long, Nothing, Cut}
+use Rattle.image.specs.Address.{after, halfwordAt, halfwords}
+use Rattle.image.specs.Items.{lastBy, lastPicked, alike, pickedAt, foundWord, nothingWord, cutWord, itemOf, itemAt, itemsFrom, items}
 
 -- ---- an item
 
@@ -31,14 +33,13 @@ low-bits k a h = omega arith
 leads-of : (a : HalfwordAddress) (n k : ℕ) (i : Item) → a .0 < i .next .0 → i .next .0 ≤ n → i .word ≡ k * 2 ^ 20 + a .0 → Leads a n i
 leads-of a n k i h l e = record { more = h; within = l; place = λ s. ap (bits 19 0) e ∙ low-bits k (a .0) s }
 
-item-leads : (p : Picked) (a : HalfwordAddress) (n : ℕ) → a .0 < n → Leads a n (itemOf p a n)
+-- where a 32-bit entry is said only of a full word
+item-leads : (p : Picked) (a : HalfwordAddress) (n : ℕ) → a .0 < n → ((e : ℕ) → p ≡ Long e → a .0 + 2 ≤ n) → Leads a n (itemOf p a n)
 unfolding itemOf nothingWord foundWord cutWord
-item-leads Nothing a n h = leads-of a n (13 * 2 ^ 8) _ (omega arith) (omega arith) (omega arith)
-item-leads (Short e) a n h = leads-of a n (12 * 2 ^ 8 + e) _ (omega arith) (omega arith) (omega arith)
-item-leads (Long e) a n h =
-    cases (ltb n (a .0 + 2))
-    (λ t. rw t (leads-of a n (14 * 2 ^ 8) _ (omega arith) (omega arith) (omega arith)))
-    (λ t. let k = ltb-false n (a .0 + 2) t in rw t (leads-of a n (12 * 2 ^ 8 + e) _ (omega arith) (omega arith) (omega arith)))
+item-leads (Short e) a n h full = leads-of a n (12 * 2 ^ 8 + e) _ (omega arith) (omega arith) (omega arith)
+item-leads (Long e) a n h full = leads-of a n (12 * 2 ^ 8 + e) _ (omega arith) (omega (arith, full e refl)) (omega arith)
+item-leads Nothing a n h full = leads-of a n (13 * 2 ^ 8) _ (omega arith) (omega arith) (omega arith)
+item-leads Cut a n h full = leads-of a n (14 * 2 ^ 8) _ (omega arith) (omega arith) (omega arith)
 
 -- what item_of makes
 module _ (p : Picked) (a : HalfwordAddress) (n w : ℕ) where
@@ -46,25 +47,50 @@ module _ (p : Picked) (a : HalfwordAddress) (n w : ℕ) where
   unfolding itemOf
   item-nothing e q = rw (e, q) refl
 
+  pub item-cut : p ≡ Cut → w ≡ cutWord a → record { word = w; next = record { 0 = n } } ≡ itemOf p a n
+  unfolding itemOf
+  item-cut e q = rw (e, q) refl
+
   module _ (x : ℕ) where
     pub item-short : p ≡ Short x → w ≡ foundWord x a → record { word = w; next = after a 1 } ≡ itemOf p a n
     unfolding itemOf
     item-short e q = rw (e, q) refl
 
-    pub item-cut : p ≡ Long x → n < a .0 + 2 → w ≡ cutWord a → record { word = w; next = record { 0 = n } } ≡ itemOf p a n
+    pub item-long : p ≡ Long x → w ≡ foundWord x a → record { word = w; next = after a 2 } ≡ itemOf p a n
     unfolding itemOf
-    item-cut e h q = rw (e, q, lt-ltb n (a .0 + 2) h) refl
+    item-long e q = rw (e, q) refl
 
-    pub item-long : p ≡ Long x → a .0 + 2 ≤ n → w ≡ foundWord x a → record { word = w; next = after a 2 } ≡ itemOf p a n
-    unfolding itemOf
-    item-long e h q = rw (e, q, le-ltb n (a .0 + 2) h) refl
+-- ---- what the image says: a 32-bit entry only where the word is full
+
+by-not-long : (es : List Entry) (x : Choice) (e : ℕ) → lastBy es x ≡ Long e → ⊥
+unfolding lastBy
+by-not-long es (names i) e q =
+    cases (eqb (entryNumber es i .size) 16)
+    (λ t. let s : Short i ≡ Long e = rw t at q in let z : _≡_ {A = ℕ} 0 1 = cc in omega arith)
+    (λ t. let s : Cut ≡ Long e = rw t at q in let z : _≡_ {A = ℕ} 0 1 = cc in omega arith)
+by-not-long es nothing e q = let z : _≡_ {A = ℕ} 0 1 = cc in omega arith
+by-not-long es ambiguous e q = let z : _≡_ {A = ℕ} 0 1 = cc in omega arith
+
+last-not-long : (es : List Entry) (u e : ℕ) → lastPicked es u ≡ Long e → ⊥
+unfolding lastPicked
+last-not-long es u e q =
+    cases (alike es u)
+    (λ t. by-not-long es (select es (2 ^ 16 * u)) e (rw t at q))
+    (λ t. let s : Cut ≡ Long e = rw t at q in let z : _≡_ {A = ℕ} 0 1 = cc in omega arith)
+
+long-full : (es : List Entry) (image : List ℕ) (a : HalfwordAddress) (e : ℕ) → pickedAt es image a ≡ Long e → a .0 + 2 ≤ halfwords image
+unfolding pickedAt
+long-full es image a e q =
+    cases (ltb (a .0 + 1) (halfwords image))
+    (λ t. omega (arith, ltb-true (a .0 + 1) (halfwords image) t))
+    (λ t. absurd (last-not-long es (halfwordAt image a) e (rw t at q)))
 
 -- ---- the items from an address on
 
 module _ (es : List Entry) (image : List ℕ) where
   pub leads : (a : HalfwordAddress) → a .0 < halfwords image → Leads a (halfwords image) (itemAt es image a)
   unfolding itemAt
-  leads a h = item-leads (picked es (wordAt image a)) a (halfwords image) h
+  leads a h = item-leads (pickedAt es image a) a (halfwords image) h (long-full es image a)
 
   -- as many steps as there are halfwords left are enough, and more change nothing
   fuel-same : (f g : ℕ) (a : HalfwordAddress) → halfwords image - a .0 ≤ f → halfwords image - a .0 ≤ g → itemsFrom es image f a ≡ itemsFrom es image g a

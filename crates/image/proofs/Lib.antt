@@ -1,4 +1,5 @@
 pub mod Leading
+pub mod LastHalfword
 pub mod Filling
 pub mod Picking
 pub mod Admitting

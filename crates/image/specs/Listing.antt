@@ -97,7 +97,7 @@ pub record Step : Type 0 where
   pub item : Item
   pub mask : ℕ
 
--- the mask is that of the walk of the item's word
+-- the mask is that of the walk of the word at the address; for the last halfword, document 02, No. 6, "that of the word with zeros below"
 unfoldable pub handedOn : List Entry → List ℕ → List ℕ → HalfwordAddress → Step
 handedOn es tree image a = record { item = itemAt es image a; mask = maskOrZero (walkOf tree (wordAt image a)) }
 

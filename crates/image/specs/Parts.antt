@@ -1,5 +1,5 @@
 -- What the parts of the lister promise each other.
-use Prim.Native.Nat.{ℕ, _^_, _≤_}
+use Prim.Native.Nat.{ℕ, _^_, _≤_, _<_}
 use mathlib.Core.Bool.{true}
 use mathlib.Core.Path.{_≡_}
 use mathlib.Core.List.{List}
@@ -16,6 +16,11 @@ use Rattle.image.specs.declared.Refusal.the-variants as refusal
 use Rattle.image.specs.declared.Admission.{Admission}
 use Rattle.image.specs.Address.{halfwords}
 use Rattle.image.specs.Listing.{admitted, counted, filledWith, saidList}
+
+-- a table for images with its entries' places, and one of its entries
+pub record Placed (ws places : List ℕ) (e : ℕ) : Type 0 where
+  pub reads : Ready ws places 32 (countOf (word ws 0))
+  pub below : e < countOf (word ws 0)
 
 -- a table for images with its entries' places, and a tree that the checker accepts for it
 pub record Usable (ws places tree : List ℕ) : Type 0 where

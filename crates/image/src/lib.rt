@@ -33,11 +33,12 @@ fn halfwords(image: &[u8]) -> u32
     (image.len() / 2) as u32
 }
 
-// What a word selects, by the length of the entry: 16 bits or 32.
+// What the image says at an address: an entry, by its length of 16 bits or 32; nothing; or, at the last halfword, that it is cut.
 enum Picked {
     Short(u8),
     Long(u8),
     Nothing,
+    Cut,
 }
 
 // An item's word, and the address after it.

@@ -6,15 +6,17 @@ use crate::Listed;
 use crate::Picked;
 use crate::byte_offset;
 use crate::halfwords;
+use halves::Shared;
 use walker::Walked;
 ghost use mathlib.Core.Path.{_≡_};
 ghost use Prim.Native.Nat.{_+_, _*_, _^_, _≤_, _<_};
+ghost use lib.Dec.{eqb};
 ghost use lib.ListN.{getD};
-ghost use Rattle.table.specs.Table.{tableOf};
+ghost use Rattle.table.specs.Table.{entryNumber, tableOf};
 ghost use Rattle.flat.specs.Walk.{walkOf, maskOrZero};
 ghost use Rattle.image.specs.Address.{halfwordAt, wordAt, halfwords as halfwordsOf};
-ghost use Rattle.image.specs.Items.{picked, foundWord, nothingWord, cutWord, itemOf, itemAt, items};
-ghost use Rattle.image.specs.Parts.{Usable, Admitted, Fills};
+ghost use Rattle.image.specs.Items.{picked, lastPicked, pickedAt, foundWord, nothingWord, cutWord, itemOf, itemAt, items};
+ghost use Rattle.image.specs.Parts.{Placed, Usable, Admitted, Fills};
 
 // The byte at an offset; zero past the end.
 fn byte_at(image: &[u8], o: ByteOffset) -> u8
@@ -60,22 +62,66 @@ fn word(image: &[u8], a: HalfwordAddress) -> u32
     )
 }
 
+// Whether an entry has 16 bits.
+fn is_short(table: &[u32], places: &[u32; 256], e: u8) -> bool
+    requires { ⌜ Placed (now table) (now places) e ⌝ }
+    ensures { λ r. ⌜ r ≡ eqb (entryNumber (tableOf (now (table .entry)) .entries) e .size) 16 ⌝ }
+{
+    let head = words::word_at(table, places[e as usize] as usize);
+    words::part(head, 8, 8) == 16
+}
+
 // What a word selects. An accepted tree refuses no word, so that the last case is never met.
 fn pick(table: &[u32], places: &[u32; 256], tree: &[u32], w: u32) -> Picked
     requires { ⌜ Usable (now table) (now places) (now tree) ⌝ }
     ensures { λ r. ⌜ r ≡ picked (tableOf (now (table .entry)) .entries) w ⌝ }
 {
     match walker::walk(tree, w) {
-        Walked::Entry(e, _, _) => {
-            let head = words::word_at(table, places[e as usize] as usize);
-            if words::part(head, 8, 8) == 16 {
-                return Picked::Short(e as u8);
+        Walked::Entry(entry, _, _) => {
+            let e = entry as u8;
+            if is_short(table, places, e) {
+                return Picked::Short(e);
             }
-            Picked::Long(e as u8)
+            Picked::Long(e)
         }
         Walked::Nothing(_, _) => Picked::Nothing,
         Walked::Unfinished(_, _) => Picked::Nothing,
     }
+}
+
+// What all words with this upper half select.
+fn pick_last(table: &[u32], places: &[u32; 256], tree: &[u32], upper: u16) -> Picked
+    requires { ⌜ Usable (now table) (now places) (now tree) ⌝ }
+    ensures { λ r. ⌜ r ≡ lastPicked (tableOf (now (table .entry)) .entries) upper ⌝ }
+{
+    match halves::in_common(tree, upper) {
+        Shared::Entry(e) => {
+            if is_short(table, places, e) {
+                return Picked::Short(e);
+            }
+            Picked::Cut
+        }
+        Shared::Nothing => Picked::Nothing,
+        Shared::Several => Picked::Cut,
+    }
+}
+
+// What the image says at an address before its end.
+fn pick_at(
+    table: &[u32],
+    places: &[u32; 256],
+    tree: &[u32],
+    image: &[u8],
+    a: HalfwordAddress,
+    end: u32,
+) -> Picked
+    requires { ⌜ Admitted (now table) (now places) (now tree) (now image) × (a .0 < end) × (end ≡ halfwordsOf (now image)) ⌝ }
+    ensures { λ r. ⌜ r ≡ pickedAt (tableOf (now (table .entry)) .entries) (now (image .entry)) a ⌝ }
+{
+    if a.0 + 1 < end {
+        return pick(table, places, tree, word(image, a));
+    }
+    pick_last(table, places, tree, halfword(image, a))
 }
 
 // Kind 12: an entry.
@@ -94,7 +140,7 @@ fn nothing_word(a: HalfwordAddress) -> u32
     a.0 | (13 << 28)
 }
 
-// Kind 14: a 32-bit entry that lacks its second half.
+// Kind 14: a word that lacks its second half.
 fn cut_word(a: HalfwordAddress) -> u32
     requires { ⌜ a .0 < 2 ^ 20 ⌝ }
     ensures { λ r. ⌜ r ≡ cutWord a ⌝ }
@@ -102,7 +148,7 @@ fn cut_word(a: HalfwordAddress) -> u32
     a.0 | (14 << 28)
 }
 
-// The item of what is selected at an address of an image that ends at end.
+// The item of what an image that ends at end says at an address.
 fn item_of(p: Picked, a: HalfwordAddress, end: u32) -> Item
     requires { ⌜ (a .0 < end) × (end ≤ 2 ^ 20) ⌝ }
     ensures { λ r. ⌜ r ≡ itemOf p a end ⌝ }
@@ -116,18 +162,14 @@ fn item_of(p: Picked, a: HalfwordAddress, end: u32) -> Item
             word: found_word(e, a),
             next: HalfwordAddress(a.0 + 1),
         },
-        Picked::Long(e) => {
-            if end < a.0 + 2 {
-                return Item {
-                    word: cut_word(a),
-                    next: HalfwordAddress(end),
-                };
-            }
-            Item {
-                word: found_word(e, a),
-                next: HalfwordAddress(a.0 + 2),
-            }
-        }
+        Picked::Long(e) => Item {
+            word: found_word(e, a),
+            next: HalfwordAddress(a.0 + 2),
+        },
+        Picked::Cut => Item {
+            word: cut_word(a),
+            next: HalfwordAddress(end),
+        },
     }
 }
 
@@ -143,7 +185,7 @@ pub fn item_at(
     ensures { λ r. ⌜ r ≡ itemAt (tableOf (now (table .entry)) .entries) (now (image .entry)) a ⌝ }
 {
     let end = halfwords(image);
-    item_of(pick(table, places, tree, word(image, a)), a, end)
+    item_of(pick_at(table, places, tree, image, a, end), a, end)
 }
 
 // The mask of the item at an address: of the walk of the word there.

@@ -1,15 +1,16 @@
--- Laws of the bits of a number: of and, of or, of a power of two; numbers with the same bits are the same. Assumes nothing.
-use Prim.Native.Nat.{ℕ, zero, suc, _≤_, _<_, _+_, _*_, _/_, _%_, _^_, min, max, suc-le-suc}
+-- Laws of the bits of a number: of and, of or, of a power of two, of a bit set, of its two parts; numbers with the same bits are the same.
+-- Assumes nothing.
+use Prim.Native.Nat.{ℕ, zero, suc, _≤_, _<_, _+_, _-_, _*_, _/_, _%_, _^_, min, max, suc-le-suc}
 use native.Mathlib.Omega.{arith}
-use native.Mathlib.Nat.{mod-lt, pow-suc, pow-zero, div-one, min-zero, div-add-mod', zero-lt-suc}
+use native.Mathlib.Nat.{mod-lt, pow-suc, pow-zero, div-one, div-eq-of-lt, mul-right-comm, min-zero, div-add-mod', zero-lt-suc}
 use native.Mathlib.Numerals.{one-add}
 use mathlib.Core.Path.{_≡_, refl, sym, ap, ap₂, _∙_}
 use mathlib.Core.Logic.{_⊎_, inl, inr}
-use mathlib.Core.Bool.{true, false, not, cond}
-use lib.Bits.{bitAnd, bitOr, and-step, or-step, and-zero-r, or-zero-l, or-shr, and-shr, and-mask, and-le-l}
-use lib.Pow.{shr-shr}
+use mathlib.Core.Bool.{Bool, true, false, not, cond}
+use lib.Bits.{bitAnd, bitOr, and-step, or-step, and-zero-r, or-zero-l, or-zero-r, or-shr, and-shr, and-mask, and-le-l}
+use lib.Pow.{pow-lt, shr-shr}
 use borrow.Author.Tests.{eqb-true, eq-eqb}
-use Rattle.words.proofs.Logic.{cases, clash, same, isTrue, and-l, and-r, and-i, not-t, not-it, exists-at, exists-none}
+use Rattle.words.proofs.Logic.{cases, clash, same, isTrue, and-l, and-r, and-i, or-il, or-ir, not-t, not-it, exists-at, exists-none}
 use lib.Arith.{bin-ind}
 use lib.Dec.{eqb}
 use Rattle.words.specs.Tests.{_and_, _or_, exists}
@@ -173,6 +174,46 @@ and-pow w (suc i) =
     ∙ ap₂ (λ (x y : ℕ). bitAnd (w / 2) x * 2 + min (w % 2) y) (pow-half i) (pow-even i)
     ∙ join (and-pow (w / 2) i) (min-zero (w % 2))
     ∙ rw (bit-suc w i) (cases (bit (w / 2) i) (λ h. rw h (omega (arith, pow-suc 2 i))) (λ h. rw h))
+
+-- ---- a number with one bit set
+
+or-false : (b : Bool) → b or false ≡ b
+unfolding _or_
+or-false true = refl
+or-false false = refl
+
+pub set-own : (v b : ℕ) → bit (bitOr v (2 ^ b)) b ≡ true
+set-own v b = bit-or v (2 ^ b) b ∙ or-ir _ (bit-pow b)
+
+pub set-other : (v b i : ℕ) → ¬ (i ≡ b) → bit (bitOr v (2 ^ b)) i ≡ bit v i
+set-other v b i h = bit-or v (2 ^ b) i ∙ ap (λ (x : Bool). bit v i or x) (bit-pow-other b i h) ∙ or-false (bit v i)
+
+-- what was set stays set
+pub set-more : (v b i : ℕ) → bit v i ≡ true → bit (bitOr v (2 ^ b)) i ≡ true
+set-more v b i t = bit-or v (2 ^ b) i ∙ or-il _ t
+
+-- ---- the bits from k on, and those below
+
+pub bit-upper : (k w b : ℕ) → k ≤ b → bit w b ≡ bit (w / 2 ^ k) (b - k)
+unfolding bit
+bit-upper k w b h =
+    let e : k + (b - k) ≡ b = omega arith in
+    ap (λ (x : ℕ). eqb (x % 2) 1) (ap (λ (j : ℕ). w / 2 ^ j) (sym e) ∙ sym (shr-shr w k (b - k)))
+
+pub low-zero : (k x i : ℕ) → i < k → bit (2 ^ k * x) i ≡ false
+low-zero zero x i h = absurd (omega arith)
+low-zero (suc k) x zero h =
+    let e : 2 ^ suc k * x ≡ 2 ^ k * x * 2 = ap (λ (y : ℕ). y * x) (pow-suc 2 k) ∙ mul-right-comm (2 ^ k) 2 x in
+    let z : (2 ^ suc k * x) % 2 ≡ 0 = omega arith in
+    bit-low (2 ^ suc k * x) ∙ rw z
+low-zero (suc k) x (suc i) h =
+    let e : 2 ^ suc k * x ≡ 2 ^ k * x * 2 = ap (λ (y : ℕ). y * x) (pow-suc 2 k) ∙ mul-right-comm (2 ^ k) 2 x in
+    let z : 2 ^ suc k * x / 2 ≡ 2 ^ k * x = omega arith in
+    bit-suc (2 ^ suc k * x) i ∙ ap (λ (y : ℕ). bit y i) z ∙ low-zero k x i (omega arith)
+
+-- a bit below k leaves those from k on
+pub set-upper : (k v b : ℕ) → b < k → bitOr v (2 ^ b) / 2 ^ k ≡ v / 2 ^ k
+set-upper k v b h = or-shr v (2 ^ b) k ∙ ap (bitOr (v / 2 ^ k)) (div-eq-of-lt (pow-lt h)) ∙ or-zero-r (v / 2 ^ k)
 
 -- ---- a mask that includes another
 

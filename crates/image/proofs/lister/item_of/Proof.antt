@@ -1,5 +1,4 @@
-use native.Mathlib.Omega.{arith}
-use Rattle.image.proofs.Leading.{item-nothing, item-short, item-cut, item-long}
+use Rattle.image.proofs.Leading.{item-nothing, item-short, item-long, item-cut}
 use borrow.Author.Needs.{needs}
 use Rattle.image.proofs.lister.item_of.Statement.{statement}
 use Rattle.image.proofs.lister.item_of.Tie as tie
@@ -25,29 +24,29 @@ add-t11 c = search needs
 enum-known-p-2 : tie.Need-enum-known-p-2
 enum-known-p-2 c = search needs
 
-add-if1 : tie.Need-add-if1
-add-if1 c = search needs
+found-word-requires-2 : tie.Need-found-word-requires-2
+found-word-requires-2 c κs = search needs
+
+add-t14 : tie.Need-add-t14
+add-t14 c = search needs
+
+enum-told-2 : tie.Need-enum-told-2
+enum-told-2 c = search needs
 
 cut-word-requires : tie.Need-cut-word-requires
 cut-word-requires c κs = search needs
 
 returns : tie.Need-returns
-returns c = item-cut _ _ _ _ (c .before .before .before .before .p2 .given .0 .0) (c .before .before .before .before .p2 .given .1) (omega (arith, c .before .if1 .taken)) (c .cut-word .ensures)
-
-found-word-requires-2 : tie.Need-found-word-requires-2
-found-word-requires-2 c κs = search needs
-
-add-t17 : tie.Need-add-t17
-add-t17 c = search needs
+returns c = item-nothing _ _ _ _ (c .before .before .enum-told .given .1) (c .before .nothing-word .ensures)
 
 returns-2 : tie.Need-returns-2
-returns-2 c = item-nothing _ _ _ _ (c .before .before .enum-told .given .1) (c .before .nothing-word .ensures)
+returns-2 c = item-short _ _ _ _ (c .before .before .before .p .given .0 .0) (c .before .before .before .p .given .1) (c .before .found-word .ensures)
 
 returns-3 : tie.Need-returns-3
-returns-3 c = item-short _ _ _ _ (c .before .before .before .p .given .0 .0) (c .before .before .before .p .given .1) (c .before .found-word .ensures)
+returns-3 c = item-long _ _ _ _ (c .before .before .before .p2 .given .0 .0) (c .before .before .before .p2 .given .1) (c .before .found-word2 .ensures)
 
 returns-4 : tie.Need-returns-4
-returns-4 c = item-long _ _ _ _ (c .before .before .before .before .before .p2 .given .0 .0) (c .before .before .before .before .before .p2 .given .1) (omega (arith, c .before .before .if1 .left)) (c .before .found-word2 .ensures)
+returns-4 c = item-cut _ _ _ _ (c .before .enum-told2 .given .1) (c .cut-word .ensures)
 
 pub item-of-spec : {M : Type 1} → statement M
 item-of-spec =
@@ -60,11 +59,11 @@ item-of-spec =
     found-word-requires
     add-t11
     enum-known-p-2
-    add-if1
+    found-word-requires-2
+    add-t14
+    enum-told-2
     cut-word-requires
     returns
-    found-word-requires-2
-    add-t17
     returns-2
     returns-3
     returns-4)

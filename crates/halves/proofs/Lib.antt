@@ -1,0 +1,5 @@
+pub mod Steps
+pub mod Walks
+pub mod Halves
+pub mod Accepted
+pub mod Examples
