@@ -1,6 +1,7 @@
 /*
  * How long a whole listing takes: the loop of document 01 in plain C, twice, and beside it the proved lister. One loop in C looks at the
- * tree's header for each item, as a walk of its own does; the other looks once, before the first item.
+ * tree's header for each item, as a walk of its own does; the other looks once, before the first item. The last halfword is that of
+ * document 02's No. 6.
  *
  * Usage: listing table tree image start. The files hold 32-bit words, low byte first, but the image, which is bytes; `start`
  * holds the items of the image's first bytes, as the second implementation lists them (make_listing.py writes all but the table).
@@ -8,6 +9,7 @@
  *   gcc -std=c11 -O2 -Wall -Wextra bench/listing.c -o listing                                    the C side alone
  *   gcc -std=c11 -O2 -DKILNUMBER_LIST -Iinclude bench/listing.c libkilnumber.a -o listing        with the proved side
  *   gcc -std=c11 -O2 -DKILNUMBER_LIST -DSTAND_IN -Iinclude bench/listing.c -o listing                      no library, to try the harness
+ * and with -DBEFORE also an older library, whose calls all have before_ before their names.
  *
  * With the proved side it also compares every item, and asks for what probe's input can't hold: images of 2,097,152 bytes
  * and more. It exits with status 1 at a difference.
@@ -94,7 +96,25 @@ static uint32_t walk(const uint32_t *restrict tree, size_t words, uint32_t word)
     return header_good(tree, words) ? walk_from(tree, header_of(tree), word) : WRONG_WALK;
 }
 
-/* ------------------------------------------------------------------------- the listing of document 01 */
+#define SEVERAL 0x300u
+
+static uint32_t leaf_of(uint32_t node) {
+    if (node >> 28 == 9) return (node & 0x0fffff00) != 0 ? WRONG_WALK : node & 0xff;
+    return node == 10u << 28 ? NOTHING : WRONG_WALK;
+}
+
+/* What all words with this upper half name from a node on: as walk_from, or SEVERAL. The tree is a good one: its sides share no node. */
+static uint32_t named_from(const uint32_t *restrict tree, struct header header, uint32_t upper, uint32_t index) {
+    uint32_t node = tree[index], bit = node >> 23 & 31, one_side = node & 0xffff;
+    if (node >> 28 != 8) return leaf_of(node);
+    if ((node >> 16 & 0x7f) != 0 || bit >= header.width || one_side < index + 2 || one_side > header.nodes) return WRONG_WALK;
+    if (bit >= 16) return named_from(tree, header, upper, (upper >> (bit - 16) & 1) == 0 ? index + 1 : one_side);
+    uint32_t zero = named_from(tree, header, upper, index + 1), one = named_from(tree, header, upper, one_side);
+    if (zero == WRONG_WALK || one == WRONG_WALK) return WRONG_WALK;
+    return zero == one ? zero : SEVERAL;
+}
+
+/* ------------------------------------------------------------------------- the listing of documents 01 and 02 */
 
 #define REFUSED SIZE_MAX
 
@@ -108,21 +128,17 @@ struct listing {
     size_t halves, address, items, room;
 };
 
-/* "a missing lower half reads as zero" */
-static inline uint32_t word_at(const uint8_t *restrict image, size_t address, size_t halves) {
-    return halfword(image, address) << 16 | (address + 1 < halves ? halfword(image, address + 1) : 0);
+static inline uint32_t word_at(const uint8_t *restrict image, size_t address) {
+    return halfword(image, address) << 16 | halfword(image, address + 1);
 }
 
-/* One item; 0 where the walk was refused or the buffer is full. */
+/* The item of a full word; 0 where the walk was refused or the buffer is full. */
 static inline int put_item(struct listing *listing, uint32_t named, uint32_t *restrict buffer) {
-    size_t address = listing->address, halves = listing->halves;
+    size_t address = listing->address;
     if (named == WRONG_WALK || listing->items == listing->room) return 0;
     if (named == NOTHING) {
         buffer[listing->items++] = 13u << 28 | (uint32_t)address;
         listing->address = address + 1;
-    } else if (address + listing->lengths[named] / 16 > halves) {
-        buffer[listing->items++] = 14u << 28 | (uint32_t)address;
-        listing->address = halves;
     } else {
         buffer[listing->items++] = 12u << 28 | named << 20 | (uint32_t)address;
         listing->address = address + listing->lengths[named] / 16;
@@ -130,13 +146,28 @@ static inline int put_item(struct listing *listing, uint32_t named, uint32_t *re
     return 1;
 }
 
+/* The item of the last halfword, if the items before it leave it over; 0 as put_item. "With the lower half missing, the item is now kind 12
+ * exactly if all 65,536 lower halves select the same entry of length 16, kind 13 if all of them select nothing, and kind 14 otherwise." */
+static int put_last(struct listing *listing, const uint32_t *restrict tree, size_t tree_words, const uint8_t *restrict image,
+                    uint32_t *restrict buffer) {
+    size_t address = listing->address;
+    if (address == listing->halves) return 1;
+    uint32_t named = header_good(tree, tree_words) ? named_from(tree, header_of(tree), halfword(image, address), 1) : WRONG_WALK;
+    if (named == WRONG_WALK || listing->items == listing->room) return 0;
+    if (named == NOTHING) buffer[listing->items++] = 13u << 28 | (uint32_t)address;
+    else if (named == SEVERAL || listing->lengths[named] != 16) buffer[listing->items++] = 14u << 28 | (uint32_t)address;
+    else buffer[listing->items++] = 12u << 28 | named << 20 | (uint32_t)address;
+    listing->address = address + 1;
+    return 1;
+}
+
 /* The number of items, or REFUSED where the tree is no good or the buffer too short. The header is looked at for each item. */
 static size_t list_in_c(const uint32_t *restrict tree, size_t tree_words, const uint8_t *restrict lengths,
                         const uint8_t *restrict image, size_t image_bytes, uint32_t *restrict buffer, size_t room) {
     struct listing listing = {lengths, image_bytes / 2, 0, 0, room};
-    while (listing.address < listing.halves)
-        if (!put_item(&listing, walk(tree, tree_words, word_at(image, listing.address, listing.halves)), buffer)) return REFUSED;
-    return listing.items;
+    while (listing.address + 1 < listing.halves)
+        if (!put_item(&listing, walk(tree, tree_words, word_at(image, listing.address)), buffer)) return REFUSED;
+    return put_last(&listing, tree, tree_words, image, buffer) ? listing.items : REFUSED;
 }
 
 /* The same with one look at the header, before the first item. */
@@ -145,9 +176,9 @@ static size_t list_looking_once(const uint32_t *restrict tree, size_t tree_words
     struct listing listing = {lengths, image_bytes / 2, 0, 0, room};
     if (!header_good(tree, tree_words)) return REFUSED;
     struct header header = header_of(tree);
-    while (listing.address < listing.halves)
-        if (!put_item(&listing, walk_from(tree, header, word_at(image, listing.address, listing.halves)), buffer)) return REFUSED;
-    return listing.items;
+    while (listing.address + 1 < listing.halves)
+        if (!put_item(&listing, walk_from(tree, header, word_at(image, listing.address)), buffer)) return REFUSED;
+    return put_last(&listing, tree, tree_words, image, buffer) ? listing.items : REFUSED;
 }
 
 /* ------------------------------------------------------------------------- the proved side */
@@ -163,6 +194,20 @@ static struct listed proved_list(struct words table, struct words tree, const ui
     uint64_t result = kilnumber_list(table.at, table.count, tree.at, tree.count, image, image_bytes, buffer, room);
     struct listed listed = {kilnumber_number(result), kilnumber_items(result)};
     return listed;
+}
+#endif
+
+#ifdef BEFORE
+uint64_t before_kilnumber_list(const uint32_t *table, size_t table_words, const uint32_t *tree, size_t tree_words,
+                               const uint8_t *image, size_t image_bytes, uint32_t *items, size_t room);
+
+/* How long the older library takes. Its last item may be another, so only their number is compared. */
+static double older_takes(struct words table, struct words tree, struct bytes image, uint32_t *buffer, size_t room, size_t items) {
+    double start = seconds();
+    uint64_t result = before_kilnumber_list(table.at, table.count, tree.at, tree.count, image.at, image.count, buffer, room);
+    double taken = seconds() - start;
+    if (result != items) stop("the older library lists another number of items");
+    return taken;
 }
 #endif
 
@@ -281,6 +326,15 @@ static void check_limits(struct words table, struct words tree, const uint8_t *i
 #define WRONG 0
 #endif
 
+/* 6: the last item is read with zeros for a missing half, as before No. 6. */
+static inline void zeros_below(const uint32_t *tree, size_t tree_words, const uint8_t lengths[256], const uint8_t *image, size_t halves,
+                               uint32_t *item) {
+    size_t address = *item & 0xfffff;
+    if (address + 1 != halves) return;
+    uint32_t named = walk(tree, tree_words, halfword(image, address) << 16);
+    *item = (uint32_t)address | (named == NOTHING ? 13u << 28 : lengths[named] == 16 ? 12u << 28 | named << 20 : 14u << 28);
+}
+
 uint64_t kilnumber_list(const uint32_t *table, size_t table_count, const uint32_t *tree, size_t tree_count,
                         const uint8_t *image, size_t image_bytes, uint32_t *buffer, size_t buffer_words) {
     struct words table_words = {(uint32_t *)table, table_count};
@@ -295,6 +349,7 @@ uint64_t kilnumber_list(const uint32_t *table, size_t table_count, const uint32_
         if (WRONG == 3 && items != REFUSED) buffer[items] = 0; /* 3: the word after the items is changed */
         if (WRONG == 4 && items == REFUSED) buffer[0] = 0;     /* 4: the buffer doesn't hold the earlier items */
         if (WRONG == 5 && items != REFUSED) buffer[items - 1] &= ~(1u << 19); /* 5: addresses of nineteen bits */
+        if (WRONG == 6 && items != REFUSED && items > 0) zeros_below(tree, tree_count, lengths, image, image_bytes / 2, buffer + items - 1);
         result = items == REFUSED ? (uint64_t)17 << 32 : (uint64_t)items;
     }
     return result;
@@ -327,6 +382,9 @@ int main(int arguments, char **argument) {
 
     /* The sides take turns, so that what else the machine does meets both. */
     double c_taken[REPEATS], once_taken[REPEATS], proved_taken[REPEATS], setup_taken[REPEATS];
+#ifdef BEFORE
+    double older_taken[REPEATS];
+#endif
     for (int turn = 0; turn < REPEATS; turn++) {
         double before = seconds();
         size_t again = list_in_c(tree.at, tree.count, lengths, image.at, image.count, in_c, room);
@@ -347,6 +405,9 @@ int main(int arguments, char **argument) {
         expect("no image", proved_list(table, tree, image.at, 0, proved, room), 0, 0);
         setup_taken[turn] = seconds() - before;
 #endif
+#ifdef BEFORE
+        older_taken[turn] = older_takes(table, tree, image, once, room, items);
+#endif
     }
     struct times c_times = times_of(c_taken), once_times = times_of(once_taken);
     print_times("C, header each time", c_times, items);
@@ -358,6 +419,11 @@ int main(int arguments, char **argument) {
     printf("ratio proved to C that looks at the header each time, best: %.2f, median: %.2f; once, best: %.2f, median: %.2f\n",
            proved_times.best / c_times.best, proved_times.median / c_times.median, proved_times.best / once_times.best,
            proved_times.median / once_times.median);
+#ifdef BEFORE
+    struct times older_times = times_of(older_taken);
+    print_times("proved, before", older_times, items);
+    printf("ratio to before, best: %.2f, median: %.2f\n", proved_times.best / older_times.best, proved_times.median / older_times.median);
+#endif
 #else
     (void)proved_taken;
     (void)setup_taken;

@@ -3,7 +3,8 @@
 
 The table: width 32, entries of 16 and 32 bits, some with conditions, each selected by some word. The tree is the second
 implementation's. The image: 2,097,152 bytes of instructions of all entries with random fields, and a few random halfwords.
-`start`: how many bytes of the image, and the items that the second implementation lists in them.
+`start`: how many bytes of the image, and the items that the second implementation lists in them. Image and start end in a halfword
+that is cut off, though with zeros for the missing half it would be a whole instruction, or nothing.
 """
 
 import random
@@ -13,13 +14,14 @@ from pathlib import Path
 
 sys.path.insert(0, str(Path(__file__).resolve().parent.parent / "tests"))
 
-from second import images, selfcheck, tables
+from second import halves, images, selfcheck, tables
 from second.image import list_items
 from second.reader import read
+from second.selection import NOTHING, select
 from second.tree import NamesNothing, conflict_word, named_entries, nodes_of, written
 
 SEED = 1
-IMAGE_SEED = 2          # of an image that ends within an instruction
+IMAGE_SEED = 2
 ENTRIES = 32            # drawn; those that no word selects are left out
 LEAST_EACH = 10         # entries of either length
 MOST_NODES = 250
@@ -60,19 +62,44 @@ def make_table(rng):
             return tables.lay_out(plan).words
 
 
-def make_image(rng, plan):
-    halves = []
-    while len(halves) < IMAGE_HALVES:
-        halves += [rng.getrandbits(16)] if rng.random() < RANDOM_OFTEN else images.instruction(rng, plan)
-    return images.image_of(halves[:IMAGE_HALVES])
+def is_whole_with_zeros(table, upper):
+    """Whether the halfword is cut off at the end, but with zeros below selects an entry of 16 bits, or nothing."""
+    answer = select(table, upper << 16)
+    return halves.kind_and_entry(table, upper)[0] == 14 and (answer == NOTHING or table.entries[answer].length == 16)
+
+
+def drawn_until(rng, plan, is_right):
+    """An upper half of an entry's word that is right."""
+    while True:
+        upper = images.upper_of(rng, rng.choice(plan.entries))
+        if is_right(upper):
+            return upper
+
+
+def make_tail(rng, table, plan):
+    """The last three halfwords. The first two are a 16-bit instruction, whatever follows: at one of them an item begins, also if one of 32
+    bits lies over the first of them. So an item begins at the third."""
+    short = drawn_until(rng, plan, lambda upper: halves.kind_and_entry(table, upper)[0] == 12)
+    return [short, short, drawn_until(rng, plan, lambda upper: is_whole_with_zeros(table, upper))]
+
+
+def make_image(rng, table, plan):
+    image = []
+    while len(image) < IMAGE_HALVES:
+        image += [rng.getrandbits(16)] if rng.random() < RANDOM_OFTEN else images.instruction(rng, plan)
+    for end in (START_BYTES // 2, IMAGE_HALVES):
+        image[end - 3:end] = make_tail(rng, table, plan)
+    return images.image_of(image[:IMAGE_HALVES])
 
 
 def make_others(words, tree_file, image_file, start_file):
     table = read(words)
     tree = written(table.width, nodes_of(table))
-    image = make_image(random.Random(IMAGE_SEED), selfcheck.as_plan(table))
+    image = make_image(random.Random(IMAGE_SEED), table, selfcheck.as_plan(table))
     start = image[:START_BYTES]
     count, items = list_items(words, tree, start, [0] * (START_BYTES // 2))
+    if items[count - 1] != 14 << 28 | START_BYTES // 2 - 1:
+        sys.exit(f"the start ends in the item {items[count - 1]:08x}")
     Path(tree_file).write_bytes(pack(tree))
     Path(image_file).write_bytes(image)
     Path(start_file).write_bytes(pack([START_BYTES] + items[:count]))

@@ -1,7 +1,8 @@
 """Checks the instruction sets in data/: each table is what its list makes, its tree is the second implementation's, what
 probe selects is what the second implementation selects and what a decoder in decoders/ names, and its cycles are the list's. The twin
 of a table, which is of the other kind, has the same tree and selects the same; without forms it has the same tree. Its forms are those
-written here, and operands of known words come out as known numbers and texts. With two instructions more that cover an old one it has
+written here, and operands of known words come out as known numbers and texts. Images that a transfer has cut end in a halfword that is
+listed as written here, and as the decoder names all words that it begins. With two instructions more that cover an old one it has
 no tree. If an instruction is withdrawn, the words change that the decoder names so. With its instructions in another order it has the same
 tree but for the numbers in the leaves, and a word selects the instruction that the decoder names. A table that somebody adds to data/, with
 a list or without, has no such decoder, and is compared with the second implementation alone.
@@ -31,7 +32,8 @@ import decoders.buoy
 import decoders.riscv
 import make
 from patterns import POINT, SIGNED, Form, field_words, fields_of, listed, mask_and_value, table_bytes, table_words
-from second import examples, shuffles
+from second import examples, halves, shuffles
+from second.images import image_of
 from second.lines import line_of, mktree_text, read_line
 from second.reader import Refusal, read
 from second.selection import AMBIGUOUS, NOTHING, select
@@ -141,6 +143,33 @@ AVR_PROGRAM = bytes.fromhex("0c943400 1124 1fbe cfef d8e0 debf cdbf 0e944000 0c9
                             "f894 ffcf 0c94")
 AVR_LISTING = ["0 JMP", "2 EOR", "3 OUT", "4 LDI", "5 LDI", "6 OUT", "7 OUT", "8 CALL", "10 JMP", "12 LDI", "13 STS", "15 LDS",
                "17 SBIW", "18 BRBC", "19 nothing", "20 RET", "21 BCLR", "22 RJMP", "23 cut off"]
+
+# The last halfword of an image, and what a lister must say of it. The second halfword of AVR never decides anything, only whether it is
+# there; in the others it decides, and zeros for it would often make another answer.
+CUT_OFF = "cut off"
+LAST = {
+    "avr": {0x940E: CUT_OFF,        # CALL
+            0x940C: CUT_OFF,        # JMP
+            0x9180: CUT_OFF,        # LDS
+            0x9380: CUT_OFF,        # STS
+            0x9409: "IJMP", 0x9508: "RET", 0x95C8: "LPM", 0x0000: "NOP", 0xCFFF: "RJMP", 0xFFFF: NOTHING, 0x0001: NOTHING},
+    "riscv": {0x0000: CUT_OFF,      # zeros below are nothing, but 00000013 is a nop
+              0xFFFF: CUT_OFF},     # zeros below are nothing, but ffff0537 is a lui
+    "a32": {0xEAFF: CUT_OFF,        # b
+            0xE320: CUT_OFF,        # zeros below are nothing, but e320f000 is a nop
+            0xF57F: CUT_OFF,        # zeros below are nothing, but f57ff05f is a dmb
+            0xF610: CUT_OFF,        # zeros below are a memory hint, but f6100010 is nothing
+            0xF800: NOTHING},
+    "buoy": {0x0F00: "TRIP", 0x1FF3: "ADD", 0xB1F0: "DOZE", 0xB1FF: "SLEEP", 0x9F10: "LAMP OFF", 0xB001: "RELEASE", 0xB100: NOTHING,
+             0xF000: NOTHING, 0xE310: NOTHING,
+             0xE000: CUT_OFF,       # SEND
+             0xE300: CUT_OFF,       # SET LONG
+             0xE800: CUT_OFF,       # STOP, SAMPLE or nothing
+             0xEFF0: CUT_OFF},      # STOP ALL, SAMPLE or nothing
+}
+# What stands before it in a longer image, and its items.
+BEFORE_LAST = {"avr": ([0x940C, 0x0034], ["0 JMP"]), "riscv": ([0x0000, 0x0013], ["0 ADDI"]), "a32": ([0xE3A0, 0x0001], ["0 MOV"]),
+               "buoy": ([0x0F00, 0x1FF3], ["0 TRIP", "1 ADD"])}
 
 
 @dataclass
@@ -314,7 +343,13 @@ def listed_name(one, item):
     """Kind 12 has an entry, kind 13 nothing, kind 14 is an instruction that the image's end cuts off."""
     if item >> 28 == 12:
         return one.mnemonic(item >> 20 & 0xFF)
-    return {13: NOTHING, 14: "cut off"}[item >> 28]
+    return {13: NOTHING, 14: CUT_OFF}[item >> 28]
+
+
+def names_listed(one, line):
+    """The items in a line of request 9: address and name."""
+    items = [int(item, 16) for item in line.partition("| ")[2].split()][:int(line.split(" ")[4])]
+    return [f"{item & 0xFFFFF} {listed_name(one, item)}" for item in items]
 
 
 def compare_listing(path, one, tree, tally):
@@ -322,11 +357,37 @@ def compare_listing(path, one, tree, tally):
     question = "list", one.words, tree, AVR_PROGRAM, [0] * (len(AVR_PROGRAM) // 2)
     line = probe.ask(path, [question])[0]
     twinned.compare(path, TWINS, [("AVR program", question, line)], tally)
-    items = [int(item, 16) for item in line.partition("| ")[2].split()][:int(line.split(" ")[4])]
-    seen = [f"{item & 0xFFFFF} {listed_name(one, item)}" for item in items]
+    seen = names_listed(one, line)
     if seen != AVR_LISTING:
         stop(f"AVR program: expected {AVR_LISTING}, seen {seen}")
-    tally["listed"] += len(items)
+    tally["listed"] += len(seen)
+
+
+def name_by_decoder(one, upper):
+    """What a lister must say of the last halfword, by the decoder's names of all words that it begins."""
+    names = {decoded_name(one.name, upper << 16 | lower) for lower in range(65536)}
+    lengths = {len(instruction.pattern) for instruction in one.set.instructions if instruction.mnemonic in names}
+    return names.pop() if len(names) == 1 and lengths <= {16} else CUT_OFF
+
+
+def compare_last(path, one, tree, tally):
+    """The last halfword of an image by itself, and after others (document 02's No. 6)."""
+    before, items = BEFORE_LAST[one.name]
+    for upper, name in LAST[one.name].items():
+        if name_by_decoder(one, upper) != name:
+            stop(f"{one.name}, the last halfword {upper:04x}: {name} is known, by the decoder it is {name_by_decoder(one, upper)}")
+        kind, entry = halves.kind_and_entry(one.table, upper)
+        if listed_name(one, kind << 28 | entry << 20) != name:
+            stop(f"{one.name}, the last halfword {upper:04x}: {name} is known, by the second implementation it is of kind {kind}")
+        questions = [("list", one.words, tree, image_of(some), [0] * len(some)) for some in ([upper], [*before, upper])]
+        expected = [f"0 {name}"], [*items, f"{len(before)} {name}"]
+        for question, wanted, line in zip(questions, expected, probe.ask(path, questions), strict=True):
+            if names_listed(one, line) != wanted:
+                stop(f"{one.name}, an image that ends in {upper:04x}: expected {wanted}, seen {names_listed(one, line)}")
+        zeros = select(one.table, upper << 16)
+        tally["last halfwords"] += 1
+        tally["last halfwords that are cut off"] += name == CUT_OFF
+        tally["last halfwords that zeros below would have otherwise"] += name == CUT_OFF and zeros == NOTHING
 
 
 # ---------------------------------------------------------------------------- forms and operands
@@ -631,6 +692,7 @@ def least(sets):
                "twins": 4 * len(sets) + 1, "twins by the second": 2, "without forms": len(sets), "forms": 36, "operands": 45,
                "operands below zero": 25, "altered forms": 160, "altered forms of operands": 60, "forms in lists": 16,
                "covered": COVERED * len(sets), "withdrawn": WITHDRAWN * len(sets), "orders": (1 + DRAWN_ORDERS) * len(sets)}
+    needed |= {"last halfwords": 31, "last halfwords that are cut off": 14, "last halfwords that zeros below would have otherwise": 4}
     needed |= {"shuffled leaves": 12000, "shuffled words": 3600, "shuffled words with another number": 3000}
     for one in sets:
         needed |= {f"{one.name}, twin": 20000 // TWIN_EACH}
@@ -660,6 +722,7 @@ def main():
         compare_covered(path, mktree_path, random.Random(COVER_SEED), one, tally)
         compare_withdrawn(path, random.Random(WITHDRAWAL_SEED), one, tally)
         compare_shuffled(path, mktree_path, random.Random(SHUFFLE_SEED), one, tree, tally)
+        compare_last(path, one, tree, tally)
         if one.name == "avr":
             compare_listing(path, one, tree, tally)
     try_lists(tally)
@@ -671,7 +734,7 @@ def main():
     in_twins = sum(tally[f"{one.name}, twin"] for one in sets)
     print(f"compare_data good: {len(sets)} sets, {tally['tree lines']} tree words; words by set {said}; "
           f"{tally['known']} known words and {tally['words that agree']} that agree on a mask, "
-          f"{tally['listed']} items listed, {tally['altered']} altered sets noticed; {tally['cycles']} cycles; {tally['forms']} forms, "
+          f"{tally['listed']} items listed, {tally['last halfwords']} last halfwords, {tally['altered']} altered sets noticed; {tally['cycles']} cycles; {tally['forms']} forms, "
           f"{tally['operands']} operands known by number and text, {tally['altered forms']} altered forms noticed; "
           f"{tally['covered']} sets with a covered instruction refused with 19; {tally['withdrawn']} instructions withdrawn; "
           f"{tally['orders']} orders of the sets, {tally['shuffled leaves']} leaves with another number, {tally['shuffled words']} words "

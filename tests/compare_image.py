@@ -1,7 +1,7 @@
 """Compares requests 8 and 9 of probe (a step of the lister, a whole listing) with the second implementation, line for line;
 then each step's mask with probe's own walk of the word there, a part of the steps and listings with those of the tables' twins, and
 probe's own steps through an image with its own listing, all without the second one. The tables are sized too: steps and listings take
-those that are refused with 19 as they do others.
+those that are refused with 19 as they do others. (compare_halves.py has more of the last halfword of an image.)
 
 Usage: compare_image.py [path of probe]. Exits with status 1 at the first difference.
 """
@@ -256,7 +256,8 @@ def compare(path, rng, tally):
 
 
 def word_at(image, address):
-    """The halfword there above the next one; what is missing is zero."""
+    """The halfword there above the next one; zero if that is missing: "The mask handed on for such an item is that of the word with zeros
+    below" (document 02's No. 6)."""
     upper, lower = (int.from_bytes(image[2 * at:2 * at + 2], "little") for at in (address, address + 1))
     return upper << 16 | lower
 
@@ -297,15 +298,15 @@ LEAST = {
     "images": 2500, "step 0": 12000, "list 0": 3500,
     "step 14": 1500, "step 15": 2000, "step 16": 2000, "list 14": 200, "list 15": 250, "list 16": 250, "list 17": 4000,
     "refused table: 1": 30, "refused table: 2": 100, "refused table: 3": 10, "refused table: 4": 40,
-    "step, end": 8000, "step, kind 12": 2500, "step, kind 13": 1000, "step, kind 14": 400,
-    "list, kind 12": 200000, "list, kind 13": 50000, "list, kind 14": 700, "list, words left unchanged": 5000,
+    "step, end": 8000, "step, kind 12": 2500, "step, kind 13": 1000, "step, kind 14": 550,
+    "list, kind 12": 200000, "list, kind 13": 50000, "list, kind 14": 900, "list, words left unchanged": 5000,
     "list, exact: 0": 1500, "list, longer: 0": 1500, "list, empty: 0": 300, "list, empty: 17": 1200,
     "list, one short: 17": 1200, "list, some: 17": 1200, "list, long: 0": 6, "list, long: 17": 6, "step, long: 0": 27,
     "17 beyond sixteen bits": 6, "letters: 0": 80, **{f"list, entry {number:02x}": 2 for number in range(256)},
     "15: 15": 800, "15 before 16: 15": 800, "15 before 16 and 14: 15": 800, "16 before 14: 16": 400,
     "wrong tree: 14": 2000, "odd: 16": 2000, "empty: 0": 2000, "steps followed": 200,
-    "mask, kind 12": 2500, "mask, kind 13": 1000, "mask, kind 14": 400, "mask, kind 12, the lower half tested": 300,
-    "mask, kind 13, the lower half tested": 100, "mask, kind 14, the lower half tested": 100,
+    "mask, kind 12": 2500, "mask, kind 13": 1000, "mask, kind 14": 550, "mask, kind 12, the lower half tested": 300,
+    "mask, kind 13, the lower half tested": 100, "mask, kind 14, the lower half tested": 300,
     "kind 1, faulty": 100, "kind 6, faulty": 100, "twins": 9000, "twins by the second": 400,
     "sized 0": 150, "sized 19": 60, "of a table refused with 19, step 0": 3000, "of a table refused with 19, step 14": 400,
     "of a table refused with 19, step 16": 500, "of a table refused with 19, list 0": 900, "of a table refused with 19, list 14": 50,

@@ -122,6 +122,12 @@ status 0
      8: b100       unknown
      a: e000       cut off
 status 0
+     0: 8000       unknown
+     2: 0000       unknown
+     4: 8000 0001  entry 0
+     8: 8034 0003  entry 0
+     c: 8012       cut off
+status 0
 status 0
 refused 14: the tree is not right for the table
 status 1
@@ -243,6 +249,7 @@ simulator_runs() { # program
 lister_runs() { # program
     run "$1" data/avr.table "$out/avr.tree" examples/avr.image
     run "$1" data/buoy.table "$out/buoy.tree" "$out/buoy.image"
+    run "$1" "$out/ends.table" "$out/ends.tree" "$out/ends.image"        # with 0 for its other half the last one would be unknown
     run "$1" data/avr.table "$out/avr.tree" /dev/null                    # an image without bytes has no items
     run "$1" data/avr.table "$out/buoy.tree" examples/avr.image
     run "$1" "$out/three.table" "$out/three.tree" examples/avr.image

@@ -85,7 +85,7 @@ static void require_same(const void *lent, const void *from, size_t bytes) {
 static unsigned wrong; /* a check that is left out, or one of these */
 enum {
     LEAF_COUNTED = NUMBER_END + 1, READS_PAST, WRITES_TREE, MASK_FROM_ONE, MASK_WHEN_REFUSED, MASK_READS_PAST,
-    ITEM_AFTER, PLACE_AFTER, LIST_REACH, CHECK_IS_YES, CHECK_PLACE, CHECK_REACH,
+    ITEM_AFTER, PLACE_AFTER, LIST_REACH, CUT_IS_NOTHING, CHECK_IS_YES, CHECK_PLACE, CHECK_REACH,
     SIZE_SWAPPED, SIZE_IN_WORDS, SIZE_LEAF_COUNTED, SIZE_NUMBER_ABOVE, SIZE_NO_WORD, SIZE_NO_PLACE, SIZE_NO_ENTRY, SIZE_ENTRY_COUNT,
     SIZE_ENTRY_ABOVE, SIZE_LIMIT_LOWER, SIZE_READS_PAST, SIZE_READS_BEFORE, SIZE_WRITES_TABLE,
     CYCLES_OF_FIRST, CYCLES_OF_NEXT, CYCLES_LOW_BYTE, CYCLES_ENTRY_BYTE, CYCLES_AT_COUNT, CYCLES_NUMBER_ABOVE, CYCLES_NO_PLACE,
@@ -157,6 +157,7 @@ uint64_t kilnumber_list(const uint32_t *table, size_t table_words, const uint32_
     if (wrong == ITEM_AFTER && result >> 32 == 0 && result < room) items[result] = 0;
     if (wrong == PLACE_AFTER && result >> 32 == 17) result++;
     if (wrong == LIST_REACH && result >> 32 == 0 && leaves_one_out(table, tree)) result = refused_list(19, 0);
+    if (wrong == CUT_IS_NOTHING && result >> 32 == 0 && result > 0 && items[result - 1] >> 28 == 14) items[result - 1] -= 1u << 28;
     return result;
 }
 

@@ -21,7 +21,8 @@ MOST_NODES = 200
 
 
 def some_plan(rng):
-    """Mostly an image's table; some are refused with 15, which altering a word alone hardly ever makes."""
+    """Mostly an image's table, often one in which the lower half decides; some are refused with 15, which altering a word alone hardly ever
+    makes."""
     style = rng.random()
     if style < 0.1:
         # The width alone is wrong: no entries, or entries of 16 bits.
@@ -32,7 +33,8 @@ def some_plan(rng):
         return tables.nested_plan(rng, rng.randint(1, 31))
     if style < 0.35:
         return images.wrong_length_plan(rng)
-    return images.image_plan(rng, rng.choice([1, 2, 3, 5, 9]))
+    make = images.lower_plan if style < 0.6 else images.image_plan
+    return make(rng, rng.choice([1, 2, 3, 5, 9]))
 
 
 def some_list(rng):

@@ -21,7 +21,7 @@
     X(TABLE_FIRST) X(TABLE_KIND) X(TABLE_COUNT) X(TABLE_LENGTH) X(PATTERN_OWN) X(PATTERN_VALUE) X(FIELD_SPARE) X(FIELD_FORM)   \
     X(FIELD_FRACTION) X(FRACTION_OVER) X(FIELD_PLACE) X(FIELD_OVERLAP) X(COVER) X(LEFT_OVER) X(IMAGE_WIDTH) X(IMAGE_LENGTH)    \
     X(IMAGE_ODD) X(IMAGE_LONG) X(TREE_WIDTH) X(TREE_DAMAGED)                                                                 \
-    X(BIT_TWICE) X(ONE_SIDE_BEGINS) X(ALL_USED) X(NAMED_STEP) X(NOTHING_STEP) X(NO_ROOM) X(LAST_HALF)
+    X(BIT_TWICE) X(ONE_SIDE_BEGINS) X(ALL_USED) X(NAMED_STEP) X(NOTHING_STEP) X(NO_ROOM) X(LAST_HALF) X(LAST_LENGTH)
 #define SIZE_CHECKS(X)                                                                                                       \
     X(TREE_LIMIT) X(FIT_FIRST) X(CONFLICT) X(FIRST_CONFLICT) X(DEEPEST) X(HIGHEST_ON_TIE) X(MOST_MASKS) X(HIGHEST_UNFIXED)      \
     X(UNMATCHING_TOO) X(CYCLES_ASIDE) X(UNREACHED) X(CONFLICT_FIRST) X(LOWEST_UNREACHED)
@@ -712,6 +712,50 @@ static int no_image_table(const struct table *table, enum check without) {
     return 0;
 }
 
+/* The bits of the lower half in the patterns of the entries whose opcode the upper half does not clash with. The others are in no pattern
+ * that a lower half could match or miss: what is selected does not depend on them, and they need not be tried. */
+static uint32_t bits_to_try(const struct table *table, uint32_t upper) {
+    struct cell cell = {0xffff0000, upper << 16};
+    uint32_t bits = 0;
+    for (uint32_t turn = 0; turn < table->entries; turn++) {
+        const uint32_t *entry = entry_at(table, turn), *condition = entry + before_conditions(table, entry);
+        if (clashes(cell, entry + 1)) continue;
+        bits |= entry[1];
+        for (uint32_t left = entry[0] & 15; left > 0; left--, condition += 3 + 3 * (condition[0] & 15))
+            for (uint32_t pattern = 0; pattern <= (condition[0] & 15); pattern++) bits |= condition[1 + 3 * pattern];
+    }
+    return bits & 0xffff;
+}
+
+#define NOT_THE_SAME 258u
+
+/* What "all 65,536 lower halves select" with this upper half, NOT_THE_SAME if two of them differ. Without LAST_HALF zeros below decide. */
+static uint32_t selected_by_all(const struct table *table, uint32_t upper, enum check without) {
+    struct cell cell = {0xffffffff, upper << 16};
+    uint32_t bits = without == LAST_HALF ? 0 : bits_to_try(table, upper), lower = 0, first = first_step(table, cell);
+    while ((lower = (lower - bits) & bits) != 0) { /* each choice of these bits, and at the end none */
+        cell.bits = upper << 16 | lower;
+        if (first_step(table, cell) != first) return NOT_THE_SAME;
+    }
+    return first;
+}
+
+/* "With the lower half missing, the item is now kind 12 exactly if all 65,536 lower halves select the same entry of length 16, kind 13 if
+ * all of them select nothing, and kind 14 otherwise." */
+static uint32_t last_item(const struct table *table, uint32_t upper, uint32_t address, enum check without, enum check *stopped_by) {
+    uint32_t entry = selected_by_all(table, upper, without);
+    if (entry == NOT_THE_SAME) {
+        *stopped_by = LAST_HALF;
+        return 14u << 28 | address;
+    }
+    if (entry >= NO_ENTRY) return 13u << 28 | address;
+    if ((entry_at(table, entry)[0] >> 8 & 0xff) == 32) {
+        *stopped_by = LAST_LENGTH;
+        if (without != LAST_LENGTH) return 14u << 28 | address;
+    }
+    return 12u << 28 | entry << 20 | address;
+}
+
 /* "listing 15, 16, 14, 17". What a word selects is looked up in the table; the tree is only checked. */
 static uint64_t reference_list(struct lent lent, uint32_t *items, enum check without, enum check *stopped_by) {
     struct table table = table_of(lent.table, lent.table_words, without);
@@ -735,23 +779,18 @@ static uint64_t reference_list(struct lent lent, uint32_t *items, enum check wit
         }
         const uint8_t *at = lent.image + 2 * address;
         uint32_t upper = (uint32_t)at[0] | (uint32_t)at[1] << 8;
-        /* "a missing lower half reads as zero" */
-        uint32_t lower = address + 1 < halves ? (uint32_t)at[2] | (uint32_t)at[3] << 8 : 0;
-        struct cell cell = {0xffffffff, upper << 16 | lower};
+        if (address + 1 == halves) {
+            items[count++] = last_item(&table, upper, (uint32_t)address++, without, stopped_by);
+            continue;
+        }
+        struct cell cell = {0xffffffff, upper << 16 | (uint32_t)at[2] | (uint32_t)at[3] << 8};
         uint32_t entry = first_step(&table, cell);
         if (entry >= NO_ENTRY) {
             items[count++] = 13u << 28 | (uint32_t)address++;
             continue;
         }
-        size_t next = address + (entry_at(&table, entry)[0] >> 8 & 0xff) / 16;
-        if (next > halves && without != LAST_HALF) {
-            *stopped_by = LAST_HALF;
-            items[count++] = 14u << 28 | (uint32_t)address;
-            next = halves;
-        } else {
-            items[count++] = 12u << 28 | entry << 20 | (uint32_t)address;
-        }
-        address = next;
+        items[count++] = 12u << 28 | entry << 20 | (uint32_t)address;
+        address += (entry_at(&table, entry)[0] >> 8 & 0xff) / 16;
     }
     return count;
 }

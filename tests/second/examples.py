@@ -760,7 +760,7 @@ ZERO_BELOW_TREE = table("70200005 8f800003 a0000000 80000005 90000001 90000000")
 LENGTH_24 = table("10020020 20001010 80000000 00000000 3000100f 20011810 c0000000 80000000 30000816")
 
 # Halfwords 1234 8001 0002 c000 7fff 9000. At 0 12348001 is entry 0, at 1 80010002 entry 1, at 3 c0007fff nothing,
-# at 4 7fff9000 entry 0, at 5 90000000 entry 1 without its second half.
+# at 4 7fff9000 entry 0, at 5 9000 begins entry 1, whatever would come below, and lacks its second half.
 SIX_HALVES = bytes.fromhex("3412 0180 0200 00c0 ff7f 0090")
 NO_TREE = table("70200001 a0000000")        # no tree of the tables here
 
@@ -794,8 +794,8 @@ IMAGE_EXAMPLES = [
     ("a 32-bit entry at the end, cut", listing(SHORT_OR_LONG, SHORT_OR_LONG_TREE, "0080", 2),
      "9 0 0 00000000 1 | e0000000 22222222"),
     ("no entries", listing([0x10000020], NO_TREE, "34120180", 3), "9 0 0 00000000 2 | d0000000 d0000001 33333333"),
-    # 8000 8001: 80008001 has bit 0 set: the 16-bit entry; at 1 the missing half reads as zero: the 32-bit one, cut.
-    ("the missing half reads as zero", listing(ZERO_BELOW, ZERO_BELOW_TREE, "00800180", 2),
+    # 8000 8001: 80008001 has bit 0 set: the 16-bit entry; at 1 the missing half may have it set or not.
+    ("the missing half may be either", listing(ZERO_BELOW, ZERO_BELOW_TREE, "00800180", 2),
      "9 0 0 00000000 2 | c0000000 e0000001"),
     # 8001 8000 8001: at 0 80018000 is the 32-bit one; at 2 it is cut.
     ("the next half is the lower one", listing(ZERO_BELOW, ZERO_BELOW_TREE, "018000800180", 2),
@@ -831,12 +831,140 @@ IMAGE_EXAMPLES = [
 
 # Masks of steps: every kind of item, and bits tested in both halves.
 STEP_MASK_EXAMPLES = [
-    # The missing half is tested too: 80010000 has bits 31 and 0 tested; 00018000 has bit 31 alone.
+    # The missing half is tested too, as zeros: 80010000 has bits 31 and 0 tested; 00018000 has bit 31 alone.
     ("a step at a cut entry, bit 0 tested", step(ZERO_BELOW, ZERO_BELOW_TREE, "0180", 0), "8 0 0 00000000 e0000000 1 80000001"),
     ("a step at a short entry, bit 0 tested", step(ZERO_BELOW, ZERO_BELOW_TREE, "00800180", 0),
      "8 0 0 00000000 c0000000 1 80000001"),
     ("a step at nothing, bit 31 tested", step(ZERO_BELOW, ZERO_BELOW_TREE, "01000080", 0), "8 0 0 00000000 d0000000 1 80000000"),
     ("a step, no test", step([0x10000020], NO_TREE, "34120180", 1), "8 0 0 00000000 d0000001 2 00000000"),
+]
+
+
+# ---------------------------------------------------------------------------- the last halfword of an image
+
+# Width 32; the upper half's first digit says the case. An entry of 16 bits can't look at the lower half, one of 32 bits can.
+LAST_HALVES = table("""10180020
+    20001010 f0000000 00000000 3000100c
+    20011010 f0010000 10010000 3000110b
+    20021010 f0000000 20000000 3000100c
+    20032010 f0000001 20000001 3000011b
+    20042010 f0000001 30000001 3000011b
+    20052010 f0000001 40000000 3000011b
+    20061010 f0000000 50000000 3000100c
+    20072010 f0000001 50000000 3000011b
+    20082010 f0000000 70000000 3000001c
+    20092020 f0008000 80008000 3000000f 3000100c
+    200a1010 f0000000 90000000 3000100c
+    200b2010 f000ffff 90001234 3000100c
+    200c1010 f0000000 a0000000 3000100c
+    200c2010 f0000001 a0000001 3000011b
+    200d2020 f0008000 b0000000 3000000f 3000100c
+    200d2020 f0008000 b0008000 3000000f 3000100c
+    200e2011 f0000000 c0000000 3000001c 40000000 00000003 00000003
+    200f1010 f0000000 d0000000 3000100c
+    20102021 f0000008 d0000008 30000003 30000418 40000000 08000000 08000000
+    20111010 f0000000 e0000000 3000100c
+    20122010 f8000001 e0000000 3000011a
+    20132010 f8000001 e0000001 3000011a
+    20141011 f0000000 f0000000 3000100c 40000000 00010000 00010000
+    20171010 f8000000 08000000 3000100b""")
+LAST_HALVES_TREE = table("""7020005f
+    8f80001d 8f000012 8e80000b 8e000008 8d800007 90000000 90000017 8800000a a0000000 90000001 8e00000f 8000000e
+    90000002 90000003 80000011 a0000000 90000004 8e80001a 8e000017 80000016 90000005 a0000000 80000019 90000007
+    90000006 8e00001c a0000000 90000008 8f00004b 8e800044 8e000023 87800022 a0000000 90000009 87800043 87000042
+    86800041 86000028 9000000a 85800040 8500003f 8480002c 9000000a 8400003e 8380003d 8300003c 82800031 9000000a
+    82000033 9000000a 8180003b 81000036 9000000a 8080003a 80000039 9000000b 9000000a 9000000a 9000000a 9000000a
+    9000000a 9000000a 9000000a 9000000a 9000000a 9000000a 9000000a 8e000048 80000047 9000000c 9000000d 8780004a
+    9000000e 9000000f 8e800057 8e000052 8080004f 90000010 80000051 90000010 a0000000 81800054 90000011 8d800056
+    90000012 90000011 8e00005d 8d80005c 8000005b 90000014 90000015 90000013 8800005f 90000016 a0000000""")
+
+# A single entry of mask 0: of 16 bits, and of 32 bits.
+ANY_SHORT = table("10010020 20001010 00000000 00000000 30001010")
+ANY_LONG = table("10010020 20002010 00000000 00000000 30000020")
+ANY_TREE = table("70200001 90000000")
+
+# Each upper half with what it is, the item at address 0 of the image that it is alone, and the mask of the word with zeros below.
+LAST_ITEMS = [
+    ("a 16-bit entry", "0000", "c0000000", "f8000000"),
+    ("a 16-bit entry more specific than another", "0800", "c1700000", "f8000000"),
+    ("bit 16 is there: a 16-bit entry", "1001", "c0100000", "f0010000"),
+    ("bit 16 is there: nothing", "1000", "d0000000", "f0010000"),
+    ("zeros below a 16-bit entry, others a 32-bit one", "2000", "e0000000", "f0000001"),      # before No. 6: kind 12
+    ("zeros below nothing, others a 32-bit entry", "3000", "e0000000", "f0000001"),           # before: kind 13
+    ("zeros below a 32-bit entry, others nothing", "4000", "e0000000", "f0000001"),
+    ("zeros below a 32-bit entry, others a 16-bit one", "5000", "e0000000", "f0000001"),
+    ("nothing", "6000", "d0000000", "f0000000"),
+    ("a 32-bit entry", "7000", "e0000000", "f0000000"),
+    ("bit 15 decides: nothing or a 32-bit entry", "8000", "e0000000", "f0008000"),            # before: kind 13
+    # Zeros below have bits 15 to 12 tested, as 1234 has bit 12 set; ones below would have bit 15 tested alone.
+    ("one lower half of all is a 32-bit entry", "9000", "e0000000", "f000f000"),              # before: kind 12
+    ("two entries of the same label", "a000", "e0000000", "f0000001"),                        # before: kind 12
+    ("two 32-bit entries, bit 15 decides", "b000", "e0000000", "f0008000"),
+    # Bits 1 and 0 are tested, but after a zero in bit 1 no more.
+    ("a condition excludes some lower halves", "c000", "e0000000", "f0000002"),
+    ("a 32-bit entry with a condition that lets it be", "d000", "e0000000", "f0000008"),      # before: kind 12
+    ("a condition on the upper half takes the 32-bit entry away", "d800", "c1100000", "f0000008"),
+    ("two 32-bit entries cover a 16-bit one", "e000", "e0000000", "f8000001"),
+    ("two 32-bit entries cover half of a 16-bit one, not this half", "e800", "c1300000", "f8000000"),
+    ("a condition on the upper half that lets the 16-bit entry be", "f000", "c1600000", "f0010000"),
+    ("a condition on the upper half takes the 16-bit entry away", "f001", "d0000000", "f0010000"),
+]
+
+
+def image_text(*halves):
+    """Halfwords in hexadecimal as the bytes of an image: low byte first."""
+    return " ".join(half[2:] + half[:2] for half in halves)
+
+
+def last_list(length, *halves):
+    return listing(LAST_HALVES, LAST_HALVES_TREE, image_text(*halves), length)
+
+
+def last_step(address, *halves):
+    return step(LAST_HALVES, LAST_HALVES_TREE, image_text(*halves), address)
+
+
+# (what it shows, the question, the line)
+HALVES_EXAMPLES = [
+    ("the tree for the last halfword", ("generate", LAST_HALVES, [0] * 96), f"3 0 0 00000000 96 | {tree_text(LAST_HALVES_TREE)}"),
+    ("the tree for the last halfword, accepted", check(LAST_HALVES, LAST_HALVES_TREE), "7 0 0 00000000 yes"),
+    *[(f"last step, {what}", last_step(0, half), f"8 0 0 00000000 {item} 1 {mask}") for what, half, item, mask in LAST_ITEMS],
+    *[(f"last item, {what}", last_list(2, half), f"9 0 0 00000000 1 | {item} 22222222") for what, half, item, _ in LAST_ITEMS],
+    *[(f"no room, {what}", last_list(0, half), "9 17 0 00000000 |") for what, half, _, _ in LAST_ITEMS],
+    # 0000 before it is entry 0 of 16 bits.
+    *[(f"second item, {what}", last_list(3, "0000", half), f"9 0 0 00000000 2 | c0000000 {item[:-1]}1 33333333")
+      for what, half, item, _ in LAST_ITEMS],
+    *[(f"no room for the second, {what}", last_list(1, "0000", half), "9 17 1 00000000 | c0000000") for what, half, _, _ in LAST_ITEMS],
+    *[(f"second step, {what}", last_step(1, "0000", half), f"8 0 0 00000000 {item[:-1]}1 2 {mask}")
+      for what, half, item, mask in LAST_ITEMS],
+
+    # A full word is read as before: 2000 2000 is entry 2 of 16 bits, 2000 0001 entry 3 of 32 bits.
+    ("a full word before the last halfword", last_step(0, "2000", "2000"), "8 0 0 00000000 c0200000 1 f0000001"),
+    ("the last halfword after a full word", last_step(1, "2000", "2000"), "8 0 0 00000000 e0000001 2 f0000001"),
+    ("past the last halfword", last_step(2, "2000", "2000"), "8 0 0 00000000 end"),
+    ("a 16-bit entry, then the last halfword", last_list(2, "2000", "2000"), "9 0 0 00000000 2 | c0200000 e0000001"),
+    ("a 32-bit entry to the end", last_list(2, "2000", "0001"), "9 0 0 00000000 1 | c0300000 22222222"),
+    ("a 32-bit entry to the end, a step", last_step(0, "2000", "0001"), "8 0 0 00000000 c0300000 2 f0000001"),
+    # At 1 a step begins inside of it: 0001 by itself is entry 0.
+    ("a step inside the 32-bit entry at the end", last_step(1, "2000", "0001"), "8 0 0 00000000 c0000001 2 f8000000"),
+    ("nothing, then a 16-bit entry", last_list(2, "3000", "0000"), "9 0 0 00000000 2 | d0000000 c0000001"),
+    ("nothing, then a 32-bit entry cut off", last_list(2, "8000", "7fff"), "9 0 0 00000000 2 | d0000000 e0000001"),
+    ("bit 15 is there", last_list(2, "8000", "8000"), "9 0 0 00000000 1 | c0900000 22222222"),
+    ("a whole lower half of one", last_list(2, "9000", "1234"), "9 0 0 00000000 1 | c0b00000 22222222"),
+    # 9000 1235 7000 6000 2000: entry 10, entry 1, entry 8 of 32 bits, and the last one at 4.
+    ("five halfwords", last_list(5, "9000", "1235", "7000", "6000", "2000"),
+     "9 0 0 00000000 4 | c0a00000 c0100001 c0800002 e0000004 55555555"),
+    ("five halfwords, no room for the last", last_list(3, "9000", "1235", "7000", "6000", "2000"),
+     "9 17 4 00000000 | c0a00000 c0100001 c0800002"),
+    ("five halfwords, a step at 3", last_step(3, "9000", "1235", "7000", "6000", "2000"), "8 0 0 00000000 d0000003 4 f0000000"),
+    # The refusals come first.
+    ("the last halfword, an odd image", listing(LAST_HALVES, LAST_HALVES_TREE, "0020 00", 1), "9 16 0 00000000 | 11111111"),
+    ("the last halfword, another tree", listing(LAST_HALVES, NO_TREE, "0020", 1), "9 14 0 00000000 | 11111111"),
+    ("the last halfword, another tree, a step", step(LAST_HALVES, NO_TREE, "0020", 0), "8 14 0 00000000"),
+    # Without entries every lower half selects nothing.
+    ("the last halfword, no entries", listing([0x10000020], NO_TREE, "0020", 1), "9 0 0 00000000 1 | d0000000"),
+    ("the last halfword, any word 16 bits", listing(ANY_SHORT, ANY_TREE, "0020", 1), "9 0 0 00000000 1 | c0000000"),
+    ("the last halfword, any word 32 bits", listing(ANY_LONG, ANY_TREE, "0020", 1), "9 0 0 00000000 1 | e0000000"),
 ]
 
 

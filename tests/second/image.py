@@ -1,12 +1,12 @@
-"""Steps and listings of an image, written from document 01 alone (its "Checker and images"), and a step's mask from document 02's
-No. 1. Quotations are sentences of document 01 where nothing else is said.
+"""Steps and listings of an image, written from document 01 alone (its "Checker and images"), a step's mask from document 02's No. 1, and
+the last halfword from its No. 6. Quotations are sentences of document 01 where nothing else is said.
 
 What a word selects is looked up in the table. The tree is checked, and walked for the mask alone: no item comes from a walk.
 """
 
 from functools import lru_cache
 
-from second import walk
+from second import halves as lower_halves, walk
 from second.checker import check_once
 from second.reader import Refusal
 from second.selection import AMBIGUOUS, NOTHING, read_once, select
@@ -16,11 +16,12 @@ MOST_BYTES = 2097152
 
 
 class Selecting:
-    """What the words of one table select, each asked once."""
+    """What the words of one table select, and what the last halfword of an image is by it, each asked once."""
 
     def __init__(self, table):
         self.table = table
         self.known = {}
+        self.known_last = {}
 
     def of(self, word):
         if word not in self.known:
@@ -28,6 +29,11 @@ class Selecting:
             # A tree that the checker accepts has no room for an ambiguous word.
             assert self.known[word] != AMBIGUOUS
         return self.known[word]
+
+    def of_last(self, upper):
+        if upper not in self.known_last:
+            self.known_last[upper] = lower_halves.kind_and_entry(self.table, upper)
+        return self.known_last[upper]
 
     def length(self, entry):
         return self.table.entries[entry].length
@@ -72,6 +78,7 @@ def halfwords(image):
 
 def word_at(halves, address):
     # "The halfword at an address is the word's upper half, the next one its lower half; a missing lower half reads as zero."
+    # The last word is so for its mask alone.
     lower = halves[address + 1] if address + 1 < len(halves) else 0
     return 65536 * halves[address] + lower
 
@@ -80,22 +87,29 @@ def item_of(kind, entry, address):
     return kind << 28 | entry << 20 | address
 
 
+def last_item(selecting, halves, address):
+    """The item at the last halfword of the image, and the next address: on by a halfword, or "the end", which are the same."""
+    # Document 02: "With the lower half missing, the item is now kind 12 exactly if .., kind 13 if .., and kind 14 otherwise."
+    kind, entry = selecting.of_last(halves[address])
+    return item_of(kind, entry, address), len(halves)
+
+
 def item_at(selecting, halves, address):
     """The item at an address of the image, and the next address."""
+    # Document 02: "full words read as before."
+    if address + 1 == len(halves):
+        return last_item(selecting, halves, address)
     entry = selecting.of(word_at(halves, address))
     # "kind 13 with the address if nothing is selected, then on by one halfword;"
     if entry == NOTHING:
         return item_of(13, 0, address), address + 1
-    next_address = address + selecting.length(entry) // 16
-    # "kind 14 with the address, and the end, if a 32-bit entry lacks its second half."
-    if next_address > len(halves):
-        return item_of(14, 0, address), len(halves)
     # "kind 12 with the entry in bits 27-20 and the address in bits 19-0, then on by its length;"
-    return item_of(12, entry, address), next_address
+    return item_of(12, entry, address), address + selecting.length(entry) // 16
 
 
 def mask_at(tree, halves, address):
-    # Document 02: "each step of the lister hands on its item's mask": that of the walk of the word at the address.
+    # Document 02: "each step of the lister hands on its item's mask": that of the walk of the word at the address. No. 6: "The mask
+    # handed on for such an item is that of the word with zeros below."
     return walk.mask_or_zero(walk.walk(tree, word_at(halves, address)))
 
 

@@ -59,6 +59,65 @@ def wrong_length_plan(rng):
     return plan
 
 
+LABELS = 4      # so few that entries often share one
+
+
+def lower_bits(rng):
+    """Few bits of the lower half, often the highest or the lowest alone; now and then all of them."""
+    some = rng.choice([[15], [0], [rng.randrange(16)], rng.sample(range(16), 2), rng.sample(range(16), 3), range(16)])
+    return sum(1 << bit for bit in some)
+
+
+def with_lower(rng, base, mask, value):
+    """An entry of 32 bits with the base's opcode, and these bits of the lower half where the base leaves them free."""
+    mask &= ~base.mask
+    return tables.entry_on_mask(rng, WIDTH, 32, base.mask | mask, base.value | value & mask)
+
+
+def lower_entries(rng, base):
+    """Entries more specific than the base by bits of the lower half: one, or two that share all its words."""
+    mask = lower_bits(rng)
+    if rng.random() < 0.25:
+        mask &= -mask
+        return [with_lower(rng, base, mask, 0), with_lower(rng, base, mask, mask)]
+    return [with_lower(rng, base, mask, rng.choice([0, mask, rng.getrandbits(16)]))]
+
+
+def lower_pattern(rng, entry):
+    """Bits of the lower half, now and then with one of the upper half in which the entry agrees, or doesn't."""
+    mask = lower_bits(rng)
+    value = rng.getrandbits(16) & mask
+    if rng.random() < 0.3:
+        bit = 1 << rng.randrange(16, 32)
+        mask, value = mask | bit, value | rng.choice([0, bit, entry.value & bit])
+    return mask, value
+
+
+def add_lower_conditions(rng, entry):
+    for _ in range(rng.choice([1, 1, 2])):
+        matching, count = lower_pattern(rng, entry), rng.choice([0, 0, 1, 2])
+        entry.conditions.append((matching, [lower_pattern(rng, entry) for _ in range(count)]))
+
+
+def lower_plan(rng, most_entries=8):
+    """A table of width 32 that is never ambiguous, in which the lower half often decides what is selected, and of which length it is."""
+    entries = []
+    for _ in range(2 * most_entries):
+        refine = entries and rng.random() < 0.5
+        some = lower_entries(rng, rng.choice(entries)) if refine else [image_entry(rng, rng.choice([16, 16, 32]))]
+        for entry in some:
+            if len(entries) < most_entries and all(tables.apart(entry, other) for other in entries):
+                entries.append(entry)
+    rng.shuffle(entries)
+    for entry in entries:
+        entry.label = rng.randrange(LABELS)
+        if entry.length == 32 and rng.random() < 0.3:
+            add_lower_conditions(rng, entry)
+        else:
+            tables.add_conditions(rng, WIDTH, entry, 0.15)
+    return tables.TablePlan(WIDTH, entries)
+
+
 def letters_plan():
     """256 entries, entry n for the words with n in their highest eight bits; every third is 32 bits long."""
     entries = []
@@ -103,12 +162,29 @@ def cut_in_instruction(rng, plan, count):
     if not long_ones:
         return None
     entry = rng.choice(long_ones)
-    # The missing half reads as zero: only then the word can be the entry's.
+    # Its lower half is lost: with other lower halves the word may be another entry's, or nobody's.
     word = tables.word_on(rng, WIDTH, [(entry.mask, entry.value)])
     halves = []
     while len(halves) < count:
         halves += instruction(rng, plan)
     return halves + [word >> 16]
+
+
+def upper_of(rng, entry):
+    """The upper half of some word that the entry matches; of one that a condition matches too, if it has any."""
+    patterns = [(entry.mask, entry.value)]
+    if entry.conditions and rng.random() < 0.4:
+        patterns.append(rng.choice(entry.conditions)[0])
+    return tables.word_on(rng, WIDTH, patterns) >> 16
+
+
+def some_uppers(rng, plan, count):
+    """So many upper halves: of entries, their neighbours, and random ones."""
+    uppers = []
+    for _ in range(count):
+        upper = upper_of(rng, rng.choice(plan.entries)) if plan.entries and rng.random() < 0.85 else rng.getrandbits(16)
+        uppers.append(upper ^ (1 << rng.randrange(16) if rng.random() < 0.2 else 0))
+    return uppers
 
 
 def some_image(rng, plan):

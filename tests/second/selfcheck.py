@@ -16,8 +16,8 @@ sys.path[:] = [str(HERE.parent), *(place for place in sys.path if Path(place).re
 
 from fractions import Fraction
 
-from second import checker, checktrees, cost, examples, image, images, measure, numbers, reach, reader, selection, tables, tree, trees, \
-    twins, walk, withdrawal, wrong_cycles, wrong_masks, wrong_numbers, wrong_reach, wrong_shuffles, wrong_sizes, \
+from second import checker, checktrees, cost, examples, halves, image, images, measure, numbers, reach, reader, selection, tables, tree, \
+    trees, twins, walk, withdrawal, wrong_cycles, wrong_halves, wrong_masks, wrong_numbers, wrong_reach, wrong_shuffles, wrong_sizes, \
     wrong_withdrawal
 from second.lines import line_of, mktree_text
 from second.reader import Refusal, Table, read
@@ -50,7 +50,7 @@ MOST_MASKS_LINE = "3 0 0 00000000 6 | 70030005 80000005 81000004 90000001 900000
 
 # The hand-written examples: (name, question, line)
 ASKED = [(name, ("read", words), line) for name, words, line in examples.READ_EXAMPLES] + examples.SELECTION_EXAMPLES \
-    + examples.TREE_EXAMPLES + examples.CHECK_EXAMPLES + examples.IMAGE_EXAMPLES + examples.STEP_MASK_EXAMPLES \
+    + examples.TREE_EXAMPLES + examples.CHECK_EXAMPLES + examples.IMAGE_EXAMPLES + examples.STEP_MASK_EXAMPLES + examples.HALVES_EXAMPLES \
     + examples.SIZE_EXAMPLES + examples.CYCLES_EXAMPLES + examples.REACH_EXAMPLES + examples.WITHDRAWAL_EXAMPLES \
     + examples.NUMBERS_EXAMPLES + examples.SHUFFLE_EXAMPLES \
     + [("the bit of the most masks", ("generate", MOST_MASKS, [0] * 6), MOST_MASKS_LINE)]
@@ -203,21 +203,13 @@ def lower_half_first(halves, address):
 
 
 def last_half_again(halves, address):
-    """Mistake: a missing lower half reads as ones."""
-    return RIGHT["word_at"](halves, address) | (0xFFFF if address + 1 == len(halves) else 0)
+    """Mistake: a missing lower half reads as the upper one."""
+    return RIGHT["word_at"](halves, address) | (halves[address] if address + 1 == len(halves) else 0)
 
 
 def high_byte_first(data):
     """Mistake: a halfword's high byte comes first."""
     return [(half & 0xFF) << 8 | half >> 8 for half in RIGHT["halfwords"](data)]
-
-
-def cut_as_entry(selecting, halves, address):
-    """Mistake: a 32-bit entry that lacks its second half is listed as kind 12."""
-    entry = selecting.of(image.word_at(halves, address))
-    if entry == selection.NOTHING:
-        return RIGHT["item_at"](selecting, halves, address)
-    return image.item_of(12, entry, address), min(len(halves), address + selecting.length(entry) // 16)
 
 
 def offsets_for_addresses(selecting, halves, address):
@@ -259,7 +251,8 @@ HOMES = {reader: ("read_cycles", "form_at_fault", "spare_bit_set", "read_field")
          walk: ("damaged", "header_good", "packed", "walk", "mask_bytes"),
          checker: ("widths_equal", "none_damaged", "one_sides_begin_right", "all_used", "no_bit_twice", "named_right",
                    "nothing_right", "first_step"),
-         image: ("word_at", "halfwords", "item_at", "no_image_table", "no_image", "refusal_before_items", "mask_at"),
+         image: ("word_at", "halfwords", "item_at", "last_item", "no_image_table", "no_image", "refusal_before_items", "mask_at"),
+         halves: ("kind_and_entry",),
          measure: ("measure",), cost: ("cycles",), withdrawal: ("changed",),
          numbers: ("judged", "has_sign", "number_of", "fits", "value_of", "text_of", "signed", "stored", "text")}
 RIGHT = {name: getattr(home, name) for home, names in HOMES.items() for name in names}
@@ -290,9 +283,8 @@ MISTAKES = [("satisfied", one_missed_is_enough, "0x00 A"),
             ("first_step", walks_right, "eight unmatching patterns, named too soon"),
             ("first_step", walks_right, "eight conditions, nothing at once"),
             ("word_at", lower_half_first, "six halfwords, 5 words"),
-            ("word_at", last_half_again, "the missing half reads as zero"),
+            ("word_at", last_half_again, "last step, one lower half of all is a 32-bit entry"),
             ("halfwords", high_byte_first, "six halfwords, 5 words"),
-            ("item_at", cut_as_entry, "a 32-bit entry at the end, cut"),
             ("item_at", offsets_for_addresses, "a step at 1"),
             ("item_at", unknown_by_two, "six halfwords, 5 words"),
             ("no_image_table", width_alone, "a length of 24"),
@@ -310,6 +302,43 @@ MISTAKES = [("satisfied", one_missed_is_enough, "0x00 A"),
             ("mask_at", wrong_masks.word_for_mask, "a step at 1"),
             ("mask_at", wrong_masks.nothing_has_none, "a step at 3"),
             ("mask_at", wrong_masks.missing_half_untested, "a step at a cut entry, bit 0 tested"),
+            # each in a listing and in a step
+            ("kind_and_entry", wrong_halves.zeros_below_decide, "last item, zeros below a 16-bit entry, others a 32-bit one"),
+            ("kind_and_entry", wrong_halves.zeros_below_decide, "last step, zeros below nothing, others a 32-bit entry"),
+            ("kind_and_entry", wrong_halves.ones_below_decide, "last item, zeros below a 32-bit entry, others nothing"),
+            ("kind_and_entry", wrong_halves.ones_below_decide, "last step, zeros below a 32-bit entry, others a 16-bit one"),
+            ("kind_and_entry", wrong_halves.ends_alone, "last item, one lower half of all is a 32-bit entry"),
+            ("kind_and_entry", wrong_halves.ends_alone, "last step, one lower half of all is a 32-bit entry"),
+            ("kind_and_entry", wrong_halves.one_bit_at_a_time, "last item, one lower half of all is a 32-bit entry"),
+            ("kind_and_entry", wrong_halves.one_bit_at_a_time, "last step, one lower half of all is a 32-bit entry"),
+            ("kind_and_entry", wrong_halves.bit_15_known, "last item, bit 15 decides: nothing or a 32-bit entry"),
+            ("kind_and_entry", wrong_halves.bit_15_known, "second step, bit 15 decides: nothing or a 32-bit entry"),
+            ("kind_and_entry", wrong_halves.bit_0_known, "last item, zeros below nothing, others a 32-bit entry"),
+            ("kind_and_entry", wrong_halves.bit_0_known, "last step, zeros below a 16-bit entry, others a 32-bit one"),
+            ("kind_and_entry", wrong_halves.bit_16_missing, "last item, bit 16 is there: a 16-bit entry"),
+            ("kind_and_entry", wrong_halves.bit_16_missing, "last step, bit 16 is there: nothing"),
+            ("kind_and_entry", wrong_halves.long_one_whole, "a 32-bit entry at the end, cut"),
+            ("kind_and_entry", wrong_halves.long_one_whole, "last step, a 32-bit entry"),
+            ("kind_and_entry", wrong_halves.long_one_nothing, "second item, a 32-bit entry"),
+            ("kind_and_entry", wrong_halves.long_one_nothing, "words lent after the tree, a step"),
+            ("kind_and_entry", wrong_halves.nothing_for_some, "last item, zeros below a 32-bit entry, others nothing"),
+            ("kind_and_entry", wrong_halves.nothing_for_some, "last step, a condition excludes some lower halves"),
+            ("kind_and_entry", wrong_halves.several_are_nothing, "second item, two 32-bit entries, bit 15 decides"),
+            ("kind_and_entry", wrong_halves.several_are_nothing, "last step, two 32-bit entries cover a 16-bit one"),
+            ("kind_and_entry", wrong_halves.short_one_for_some, "last item, zeros below a 32-bit entry, others a 16-bit one"),
+            ("kind_and_entry", wrong_halves.short_one_for_some, "the last halfword after a full word"),
+            ("kind_and_entry", wrong_halves.claiming_is_enough, "last item, a 16-bit entry more specific than another"),
+            ("kind_and_entry", wrong_halves.same_label, "last item, two entries of the same label"),
+            ("kind_and_entry", wrong_halves.same_label, "last step, two entries of the same label"),
+            ("last_item", wrong_halves.past_the_end, "last step, a 32-bit entry"),
+            ("last_item", wrong_halves.entry_kept, "last item, a 32-bit entry"),
+            ("item_at", wrong_halves.last_but_one_too, "a full word before the last halfword"),
+            ("item_at", wrong_halves.last_but_one_too, "a whole lower half of one"),
+            ("item_at", wrong_halves.whole_one_cut, "a 32-bit entry to the end"),
+            ("mask_at", wrong_halves.ones_below_masked, "last step, one lower half of all is a 32-bit entry"),
+            ("mask_at", wrong_halves.ones_below_masked, "last step, a condition excludes some lower halves"),
+            ("mask_at", wrong_halves.all_paths_masked, "last step, one lower half of all is a 32-bit entry"),
+            ("mask_at", wrong_halves.all_paths_masked, "last step, a condition excludes some lower halves"),
             # compare_measure.py has those of the limit
             ("measure", wrong_sizes.zero_sides_alone, "size, every kind once"),
             ("measure", wrong_sizes.one_sides_alone, "size of the worked table"),
@@ -1048,25 +1077,49 @@ def check_checker(rng, tally):
             fail(f"only {tally[what]} of {what}")
 
 
+def named_below(lent, index, upper):
+    """What the leaves name on the paths that the upper half leaves open, from this index on. In a tree that tests no bit twice each of
+    these paths is some lower half's."""
+    node = lent[index]
+    if checker.kind(node) != checker.TEST:
+        return {selection.NOTHING if checker.kind(node) == checker.NOTHING else checker.named(node)}
+    sides, bit = (index + 1, checker.one_side(node)), checker.tested_bit(node)
+    left = sides if bit < 16 else (sides[upper >> bit - 16 & 1],)
+    return set().union(*(named_below(lent, side, upper) for side in left))
+
+
+def walked_item(table, lent, halves_of, address):
+    """Kind, entry and length in halfwords by walks: of the word, and at the end by what all walks of the upper half name."""
+    if address + 1 == len(halves_of):
+        named = named_below(lent, 1, halves_of[address])
+        answer = named.pop()
+        if named or answer != selection.NOTHING and table.entries[answer].length == 32:
+            return 14, 0, 1
+    else:
+        answer = walk.walk(lent, halves_of[address] << 16 | halves_of[address + 1]).names
+    if answer == selection.NOTHING:
+        return 13, 0, 1
+    return 12, answer, table.entries[answer].length // 16
+
+
 def check_items(words, lent, data, tally):
     """The items of a listing against walks of the tree, and each item's address against the one before."""
-    table, halves = read(words), len(data) // 2
-    count, items = image.list_items(words, lent, data, [0] * halves)
+    table = read(words)
+    halves_of = [data[at] | data[at + 1] << 8 for at in range(0, len(data), 2)]
+    count, items = image.list_items(words, lent, data, [0] * len(halves_of))
     address = 0
     for item in items[:count]:
-        padded = data + bytes(2)
-        upper, lower = (padded[2 * at] | padded[2 * at + 1] << 8 for at in (address, address + 1))
-        named = walk.walk(lent, upper << 16 | lower).names
+        kind, entry, length = walked_item(table, lent, halves_of, address)
+        upper, lower = (halves_of + [0])[address:address + 2]
         mask = sum(1 << bit for bit in trees.tested_bits(lent, upper << 16 | lower))
-        length = 1 if named == selection.NOTHING else table.entries[named].length // 16
-        kind = 13 if named == selection.NOTHING else 14 if address + length > halves else 12
-        if item != kind << 28 | (named << 20 if kind == 12 else 0) | address:
-            fail(f"item {item:08x} at {address}, but the walk names {named}: {hexadecimal(words)}, {data.hex()}")
-        if image.step(words, lent, data, address) != (item, min(address + length, halves), mask):
+        if item != kind << 28 | entry << 20 | address:
+            fail(f"item {item:08x} at {address}, but by walks kind {kind}, entry {entry}: {hexadecimal(words)}, {data.hex()}")
+        if image.step(words, lent, data, address) != (item, address + length, mask):
             fail(f"the step at {address} isn't the item {item:08x}: {hexadecimal(words)}, {data.hex()}")
         address += length
         tally[f"items {kind}"] += 1
-    if address < halves:
+        tally["last halfwords"] += address == len(halves_of) and length == 1
+    if address != len(halves_of):
         fail(f"the listing ends at {address}: {hexadecimal(words)}, {data.hex()}")
 
 
@@ -1089,7 +1142,7 @@ def check_lister(rng, tally):
             check_items(words, tree.written(plan.width, nodes), images.some_image(rng, plan), tally)
             tally["listed images"] += 1
     check_limits(tally)
-    for what, least in (("items 12", 300), ("items 13", 100), ("items 14", 20)):
+    for what, least in (("items 12", 300), ("items 13", 100), ("items 14", 20), ("last halfwords", 100)):
         if tally[what] < least:
             fail(f"only {tally[what]} of {what}")
 

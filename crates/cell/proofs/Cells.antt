@@ -10,7 +10,7 @@ use lib.Dec.{eqb}
 use lib.ListN.{length, getD}
 use native.Mathlib.Nat.{not-suc-le-zero, le-of-suc-le-suc, le-trans, le-refl, zero-lt-suc}
 use borrow.Author.Tests.{ltb-true, eqb-true, eqb-false, eq-eqb, ne-eqb}
-use Rattle.words.specs.Tests.{_and_, _or_, allOf, anyOf, exists, best}
+use Rattle.words.specs.Tests.{_and_, allOf, anyOf, exists, best}
 use Rattle.words.specs.Words.{bit, includes}
 use Rattle.table.specs.Lawful.{goodPattern, goodCondition, goodEntry, goodTable}
 use Rattle.table.specs.Table.{Pattern, Condition, Entry, entryNumber}

@@ -3,7 +3,7 @@ use Prim.Native.Nat.{ℕ, zero, suc, _+_, _-_, _*_, _/_, _^_, _≤_, _<_}
 use native.Mathlib.Nat.{le-refl, le-trans}
 use native.Mathlib.Omega.{arith}
 use mathlib.Core.Path.{_≡_, refl, sym, ap, _∙_}
-use mathlib.Core.Bool.{true, false, cond}
+use mathlib.Core.Bool.{false, cond}
 use mathlib.Core.List.{List, [], _∷_}
 use mathlib.Core.Option.{Option, none, some}
 use lib.Dec.{eqb, ltb}
@@ -15,8 +15,6 @@ use Rattle.words.proofs.Bits.{bit-upper}
 use Rattle.words.proofs.Logic.{cases}
 use Rattle.flat.specs.Nodes.{headerOf, nodeOf}
 use Rattle.flat.specs.Walk.{arrives, path, maskOf, Walk, enters, walkOf}
-use Rattle.flat.specs.declared.Header.the-variants.{Good}
-use Rattle.flat.specs.declared.Node.{Node}
 use Rattle.flat.specs.declared.Node.the-variants as node
 use Rattle.flat.proofs.Reading.{header-cases, header-nodes, node-cases, Says, node-says, Within, node-within}
 use Rattle.halves.specs.Common.{sideOf, bothOf, fromSides, commonFrom, commonBy, commonOf}

@@ -1,7 +1,7 @@
 -- The loop that fills the buffer. Assumes nothing.
 use mathlib.Core.Path.{_≡_, refl, sym, ap, _∙_}
 use mathlib.Core.List.{List, [], _∷_, _++_, append-nil}
-use Prim.Native.Nat.{ℕ, zero, suc, _-_, _^_, _≤_, _<_, suc-le-suc, zero-le}
+use Prim.Native.Nat.{ℕ, zero, suc, _+_, _-_, _^_, _≤_, _<_, suc-le-suc, zero-le}
 use native.Mathlib.Omega.{arith}
 use borrow.Author.Tests.{le-leb, lt-leb}
 use lib.ListN.{length, getD, set, take, drop, length-drop, length-set, drop-of-length-le}
@@ -74,9 +74,10 @@ module _ (es : List Entry) (image buffer : List ℕ) where
     pub part : n ≤ length is
     pub rest : drop n is ≡ on es image a
     pub few : n ≤ a .0
+    pub within : a .0 ≤ halfwords image
 
   pub filling-start : Filling buffer (record { 0 = 0 }) 0
-  filling-start = record { room = zero-le; same = refl; filled = refl; part = zero-le; rest = items-on es image; few = zero-le }
+  filling-start = record { room = zero-le; same = refl; filled = refl; part = zero-le; rest = items-on es image; few = zero-le; within = zero-le }
 
   module _ (out : List ℕ) (a : HalfwordAddress) (n : ℕ) (f : Filling out a n) where
     pub filling-more : a .0 < halfwords image → n < length out → (i : Item) → i ≡ itemAt es image a → Filling (set out n (i .word)) (i .next) (suc n)
@@ -85,6 +86,7 @@ module _ (es : List Entry) (image buffer : List ℕ) where
         let b : n < length buffer = let s = f .same in omega arith in
         let m = leads es image a h .more in
         let w = f .few in
+        let l = leads es image a h .within in
         rw e (record {
           room = b;
           same = length-set out n (itemAt es image a .word) ∙ f .same;
@@ -92,6 +94,7 @@ module _ (es : List Entry) (image buffer : List ℕ) where
           part = r .0;
           rest = r .2;
           few = omega arith;
+          within = l;
         })
 
     pub filling-all : halfwords image ≤ a .0 → Fills is buffer out (Items n)
@@ -104,6 +107,14 @@ module _ (es : List Entry) (image buffer : List ℕ) where
         let e = f .rest ∙ on-item es image a h in
         let full : length buffer ≤ n = let s = f .same in omega arith in
         rw (f .filled) (full-filled is buffer n (f .room) full _ _ e a (leads es image a h .place (omega arith)))
+
+  -- the last halfword is the last item
+  pub filling-last : (out : List ℕ) (a : HalfwordAddress) (n : ℕ) → Filling out a n → a .0 + 1 ≡ halfwords image → n < length out
+      → (i : Item) → i ≡ itemAt es image a → Fills is buffer (set out n (i .word)) (Items (suc n))
+  filling-last out a n f last l i e =
+      let h : a .0 < halfwords image = omega arith in
+      let m : a .0 < i .next .0 = rw e (leads es image a h .more) in
+      filling-all (set out n (i .word)) (i .next) (suc n) (filling-more out a n f h l i e) (omega arith)
 
   -- each item leads on
   pub filling-less : (a : HalfwordAddress) → a .0 < halfwords image → (i : Item) → i ≡ itemAt es image a → halfwords image - i .next .0 < halfwords image - a .0

@@ -7,13 +7,13 @@
 --     found-in-tree     what the code finds in a tree that the checker accepts
 use Prim.Native.Nat.{ℕ, _+_, _*_, _%_, _^_, _≤_, _<_}
 use native.Mathlib.Omega.{arith}
-use mathlib.Core.Path.{_≡_, refl, sym, ap, _∙_}
+use mathlib.Core.Path.{_≡_, sym, ap, _∙_}
 use mathlib.Core.Logic.{_↔_}
 use mathlib.Core.Bool.{true}
 use mathlib.Core.List.{List}
 use lib.Dec.{eqb}
 use lib.ListN.{length, List·getD-eq-default}
-use borrow.Author.Tests.{eq-eqb, eqb-true, lt-ltb, le-ltb}
+use borrow.Author.Tests.{eq-eqb, eqb-true}
 use Rattle.words.specs.Outcome.{result}
 use Rattle.words.proofs.Logic.{cases}
 use Rattle.table.specs.Table.{Entry, Table, entryNumber}
@@ -31,10 +31,11 @@ use Rattle.image.specs.declared.HalfwordAddress.{HalfwordAddress}
 use Rattle.image.specs.declared.Item.{Item}
 use Rattle.image.specs.declared.Picked.{Picked}
 use Rattle.image.specs.declared.Picked.the-variants.{Short, Nothing, Cut}
-use Rattle.image.specs.Address.{after, halfwordAt, wordAt, halfwords}
-use Rattle.image.specs.Items.{picked, alike, lastBy, lastPicked, pickedAt, foundWord, nothingWord, cutWord, itemOf, itemAt}
+use Rattle.image.specs.Address.{halfwordAt, wordAt, halfwords}
+use Rattle.image.specs.Items.{picked, allSame, lastBy, lastPicked, foundWord, nothingWord, cutWord, itemOf, itemAt}
 use Rattle.image.specs.Listing.{handedOn}
-use Rattle.image.proofs.Picking.{alike-all, last-all}
+use Rattle.image.proofs.Leading.{item-full, item-last}
+use Rattle.image.proofs.Picking.{same-all, last-all}
 
 -- ---- the words of items differ
 
@@ -76,8 +77,7 @@ module _ (ws : List ℕ) (t : Table) (reads : readTable ws ≡ result t) (image 
   few e all = omega (arith, names-exactly (t .entries) _ e .0 (zeros-below (t .entries) _ (names e) all) .entry, read-sane ws t reads .short)
 
   says : (p : Picked) → lastPicked (t .entries) (halfwordAt image a) ≡ p → is-item (itemOf p a (halfwords image))
-  unfolding itemAt pickedAt
-  says p q = rw (le-ltb (a .0 + 1) (halfwords image) (omega arith), q)
+  says p q = item-last (t .entries) image a last ∙ ap (λ (x : Picked). itemOf x a (halfwords image)) q
 
   item-short : (e : ℕ) → All (names e) → Has16 e → is-item (ends (foundWord e a))
   unfolding lastBy itemOf
@@ -101,9 +101,9 @@ module _ (ws : List ℕ) (t : Table) (reads : readTable ws ≡ result t) (image 
   three f g h =
       let es : List Entry = t .entries in
       let u : ℕ = halfwordAt image a in
-      cases (alike es u)
+      cases (allSame es u)
       (λ y.
-      let all : AllSelect es u (select es (2 ^ 16 * u)) = alike-all es u y in
+      let all : AllSelect es u (select es (2 ^ 16 * u)) = same-all es u y in
       answers (select es (2 ^ 16 * u))
       (λ e q. cases (eqb (entryNumber es e .size) 16)
       (λ s. f e (rw q at all) (eqb-true _ 16 s))
@@ -156,8 +156,7 @@ module _ (es : List Entry) (image : List ℕ) (a : HalfwordAddress) where
 
   -- "full words read as before"
   pub full-words : a .0 + 1 < halfwords image → itemAt es image a ≡ itemOf (picked es (wordAt image a)) a (halfwords image)
-  unfolding itemAt pickedAt
-  full-words h = rw (lt-ltb (a .0 + 1) (halfwords image) h)
+  full-words = item-full es image a
 
 -- ---- the code walks no word: it finds in the tree what all lower halves select, both ways
 

@@ -15,8 +15,8 @@ use Rattle.image.specs.declared.HalfwordAddress.{HalfwordAddress}
 use Rattle.image.specs.declared.Item.{Item}
 use Rattle.image.specs.declared.Picked.{Picked}
 use Rattle.image.specs.declared.Picked.the-variants.{Short, Long, Nothing, Cut}
-use Rattle.image.specs.Address.{after, halfwordAt, halfwords}
-use Rattle.image.specs.Items.{lastBy, lastPicked, alike, pickedAt, foundWord, nothingWord, cutWord, itemOf, itemAt, itemsFrom, items}
+use Rattle.image.specs.Address.{after, halfwordAt, wordAt, halfwords}
+use Rattle.image.specs.Items.{picked, allSame, lastBy, lastPicked, pickedAt, foundWord, nothingWord, cutWord, itemOf, itemAt, itemsFrom, items}
 
 -- ---- an item
 
@@ -74,7 +74,7 @@ by-not-long es ambiguous e q = let z : _≡_ {A = ℕ} 0 1 = cc in omega arith
 last-not-long : (es : List Entry) (u e : ℕ) → lastPicked es u ≡ Long e → ⊥
 unfolding lastPicked
 last-not-long es u e q =
-    cases (alike es u)
+    cases (allSame es u)
     (λ t. by-not-long es (select es (2 ^ 16 * u)) e (rw t at q))
     (λ t. let s : Cut ≡ Long e = rw t at q in let z : _≡_ {A = ℕ} 0 1 = cc in omega arith)
 
@@ -84,6 +84,17 @@ long-full es image a e q =
     cases (ltb (a .0 + 1) (halfwords image))
     (λ t. omega (arith, ltb-true (a .0 + 1) (halfwords image) t))
     (λ t. absurd (last-not-long es (halfwordAt image a) e (rw t at q)))
+
+-- ---- the item at an address, of a full word and of the last halfword
+
+module _ (es : List Entry) (image : List ℕ) (a : HalfwordAddress) where
+  pub item-full : a .0 + 1 < halfwords image → itemAt es image a ≡ itemOf (picked es (wordAt image a)) a (halfwords image)
+  unfolding itemAt pickedAt
+  item-full h = rw (lt-ltb (a .0 + 1) (halfwords image) h)
+
+  pub item-last : a .0 + 1 ≡ halfwords image → itemAt es image a ≡ itemOf (lastPicked es (halfwordAt image a)) a (halfwords image)
+  unfolding itemAt pickedAt
+  item-last h = rw (le-ltb (a .0 + 1) (halfwords image) (omega arith))
 
 -- ---- the items from an address on
 

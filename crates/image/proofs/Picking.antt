@@ -31,7 +31,7 @@ use Rattle.halves.specs.declared.Shared.{Shared}
 use Rattle.halves.specs.declared.Shared.the-variants as shared
 use Rattle.halves.proofs.Accepted.{AllSelect, zeros-below, OfAll, accepted-halves}
 use Rattle.image.specs.declared.Picked.the-variants.{Short, Long, Nothing, Cut}
-use Rattle.image.specs.Items.{pickedBy, picked, alike, lastBy, lastPicked}
+use Rattle.image.specs.Items.{pickedBy, picked, allSame, lastBy, lastPicked}
 use Rattle.image.specs.Parts.{Placed, Usable}
 
 -- ---- an entry at its place
@@ -104,18 +104,18 @@ module _ (es : List Entry) (v : ℕ) where
   abbrev as-zeros : ℕ → Bool
   as-zeros l = sameChoice (select es (2 ^ 16 * v + l)) (select es (2 ^ 16 * v))
 
-  pub alike-all : alike es v ≡ true → AllSelect es v (select es (2 ^ 16 * v))
-  unfolding alike
-  alike-all t l h = same-exactly _ _ .0 (every-at as-zeros (2 ^ 16) t l h)
+  pub same-all : allSame es v ≡ true → AllSelect es v (select es (2 ^ 16 * v))
+  unfolding allSame
+  same-all t l h = same-exactly _ _ .0 (every-at as-zeros (2 ^ 16) t l h)
 
-  pub all-alike : (a : Choice) → AllSelect es v a → alike es v ≡ true
-  unfolding alike
-  all-alike a all = every-make as-zeros (2 ^ 16) (λ l h. same-exactly _ _ .1 (all l h ∙ sym (zeros-below es v a all)))
+  pub all-same : (a : Choice) → AllSelect es v a → allSame es v ≡ true
+  unfolding allSame
+  all-same a all = every-make as-zeros (2 ^ 16) (λ l h. same-exactly _ _ .1 (all l h ∙ sym (zeros-below es v a all)))
 
   -- what they select decides
   pub last-all : (a : Choice) → AllSelect es v a → lastPicked es v ≡ lastBy es a
   unfolding lastPicked
-  last-all a all = rw (all-alike a all, zeros-below es v a all)
+  last-all a all = rw (all-same a all, zeros-below es v a all)
 
 module _ (es : List Entry) (tree : List ℕ) (right : accepts es 32 tree ≡ true) (v : ℕ) (h : v < 2 ^ 16) (s : Shared) (q : s ≡ commonOf tree v) where
   of-all : OfAll es v s
@@ -140,7 +140,7 @@ module _ (es : List Entry) (tree : List ℕ) (right : accepts es 32 tree ≡ tru
   unfolding lastPicked
   last-several k =
       let (l, below, differ) = of-all .several .0 k in
-      rw (isFalse (λ t. differ (alike-all es v t l below)))
+      rw (isFalse (λ t. differ (same-all es v t l below)))
 
 -- the entry that all select has its place
 pub last-placed : (ws places tree : List ℕ) → Usable ws places tree → (v : ℕ) → v < 2 ^ 16 → (s : Shared) → s ≡ commonOf tree v → (e : ℕ) → s ≡ shared.Entry e → Placed ws places e

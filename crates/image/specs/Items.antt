@@ -24,8 +24,8 @@ unfoldable pub picked : List Entry → ℕ → Picked
 picked es w = pickedBy es (select es w)
 
 -- "all 65,536 lower halves select the same": each as the word with zeros below does
-unfoldable pub alike : List Entry → ℕ → Bool
-alike es u = every (λ l. sameChoice (select es (2 ^ 16 * u + l)) (select es (2 ^ 16 * u))) (2 ^ 16)
+unfoldable pub allSame : List Entry → ℕ → Bool
+allSame es u = every (λ l. sameChoice (select es (2 ^ 16 * u + l)) (select es (2 ^ 16 * u))) (2 ^ 16)
 
 -- what all of them select: "the same entry of length 16", "nothing", or otherwise
 unfoldable pub lastBy : List Entry → Choice → Picked
@@ -36,7 +36,7 @@ lastBy es ambiguous = Cut
 -- "With the lower half missing, the item is now kind 12 exactly if all 65,536 lower halves select the same entry of length 16, kind 13 if
 -- all of them select nothing, and kind 14 otherwise."
 unfoldable pub lastPicked : List Entry → ℕ → Picked
-lastPicked es u = cond (alike es u) (lastBy es (select es (2 ^ 16 * u))) Cut
+lastPicked es u = cond (allSame es u) (lastBy es (select es (2 ^ 16 * u))) Cut
 
 -- what the image says at an address: at its last halfword so; "full words read as before"
 unfoldable pub pickedAt : List Entry → List ℕ → HalfwordAddress → Picked

@@ -15,7 +15,7 @@ ghost use lib.ListN.{getD};
 ghost use Rattle.table.specs.Table.{entryNumber, tableOf};
 ghost use Rattle.flat.specs.Walk.{walkOf, maskOrZero};
 ghost use Rattle.image.specs.Address.{halfwordAt, wordAt, halfwords as halfwordsOf};
-ghost use Rattle.image.specs.Items.{picked, lastPicked, pickedAt, foundWord, nothingWord, cutWord, itemOf, itemAt, items};
+ghost use Rattle.image.specs.Items.{picked, lastPicked, foundWord, nothingWord, cutWord, itemOf, itemAt, items};
 ghost use Rattle.image.specs.Parts.{Placed, Usable, Admitted, Fills};
 
 // The byte at an offset; zero past the end.
@@ -51,7 +51,7 @@ fn both_halves(upper: u16, lower: u16) -> u32
     (lower as u32) | ((upper as u32) << 16)
 }
 
-// The word at an address.
+// The word at an address; a missing lower half reads as zero.
 fn word(image: &[u8], a: HalfwordAddress) -> u32
     requires { ⌜ a .0 < 2 ^ 20 ⌝ }
     ensures { λ r. ⌜ r ≡ wordAt (now (image .entry)) a ⌝ }
@@ -59,6 +59,27 @@ fn word(image: &[u8], a: HalfwordAddress) -> u32
     both_halves(
         halfword(image, a),
         halfword(image, HalfwordAddress(a.0 + 1)),
+    )
+}
+
+// The halfword at an address before the image's end: its bytes are there, and are not tested for it.
+fn present_half(image: &[u8], a: HalfwordAddress) -> u16
+    requires { ⌜ a .0 < halfwordsOf (now image) ⌝ }
+    ensures { λ r. ⌜ r ≡ halfwordAt (now (image .entry)) a ⌝ }
+{
+    let o = byte_offset(a);
+    let low = o.0 as usize;
+    joined(image[low], image[low + 1])
+}
+
+// The full word at an address.
+fn full_word(image: &[u8], a: HalfwordAddress) -> u32
+    requires { ⌜ (a .0 + 1 < halfwordsOf (now image)) × (halfwordsOf (now image) ≤ 2 ^ 20) ⌝ }
+    ensures { λ r. ⌜ r ≡ wordAt (now (image .entry)) a ⌝ }
+{
+    both_halves(
+        present_half(image, a),
+        present_half(image, HalfwordAddress(a.0 + 1)),
     )
 }
 
@@ -104,24 +125,6 @@ fn pick_last(table: &[u32], places: &[u32; 256], tree: &[u32], upper: u16) -> Pi
         Shared::Nothing => Picked::Nothing,
         Shared::Several => Picked::Cut,
     }
-}
-
-// What the image says at an address before its end.
-fn pick_at(
-    table: &[u32],
-    places: &[u32; 256],
-    tree: &[u32],
-    image: &[u8],
-    a: HalfwordAddress,
-    end: u32,
-) -> Picked
-    requires { ⌜ Admitted (now table) (now places) (now tree) (now image) × (a .0 < end) × (end ≡ halfwordsOf (now image)) ⌝ }
-    ensures { λ r. ⌜ r ≡ pickedAt (tableOf (now (table .entry)) .entries) (now (image .entry)) a ⌝ }
-{
-    if a.0 + 1 < end {
-        return pick(table, places, tree, word(image, a));
-    }
-    pick_last(table, places, tree, halfword(image, a))
 }
 
 // Kind 12: an entry.
@@ -173,6 +176,37 @@ fn item_of(p: Picked, a: HalfwordAddress, end: u32) -> Item
     }
 }
 
+// The item of a full word.
+fn full_item(
+    table: &[u32],
+    places: &[u32; 256],
+    tree: &[u32],
+    image: &[u8],
+    a: HalfwordAddress,
+) -> Item
+    requires { ⌜ Admitted (now table) (now places) (now tree) (now image) × (a .0 + 1 < halfwordsOf (now image)) ⌝ }
+    ensures { λ r. ⌜ r ≡ itemAt (tableOf (now (table .entry)) .entries) (now (image .entry)) a ⌝ }
+{
+    let end = halfwords(image);
+    item_of(pick(table, places, tree, full_word(image, a)), a, end)
+}
+
+// The item of the image's last halfword.
+fn last_item(
+    table: &[u32],
+    places: &[u32; 256],
+    tree: &[u32],
+    image: &[u8],
+    a: HalfwordAddress,
+) -> Item
+    requires { ⌜ Admitted (now table) (now places) (now tree) (now image) × (a .0 + 1 ≡ halfwordsOf (now image)) ⌝ }
+    ensures { λ r. ⌜ r ≡ itemAt (tableOf (now (table .entry)) .entries) (now (image .entry)) a ⌝ }
+{
+    let end = halfwords(image);
+    let upper = present_half(image, a);
+    item_of(pick_last(table, places, tree, upper), a, end)
+}
+
 // The item at an address before the image's end.
 pub fn item_at(
     table: &[u32],
@@ -185,7 +219,10 @@ pub fn item_at(
     ensures { λ r. ⌜ r ≡ itemAt (tableOf (now (table .entry)) .entries) (now (image .entry)) a ⌝ }
 {
     let end = halfwords(image);
-    item_of(pick_at(table, places, tree, image, a, end), a, end)
+    if a.0 + 1 == end {
+        return last_item(table, places, tree, image, a);
+    }
+    full_item(table, places, tree, image, a)
 }
 
 // The mask of the item at an address: of the walk of the word there.
@@ -197,7 +234,7 @@ pub fn mask_at(tree: &[u32], image: &[u8], a: HalfwordAddress) -> u32
     walked.mask()
 }
 
-// Lists the image from its start into the buffer.
+// Lists the image from its start into the buffer: its full words, then the last halfword, if no item has taken it.
 pub fn fill(
     table: &[u32],
     places: &[u32; 256],
@@ -211,14 +248,22 @@ pub fn fill(
     let end = halfwords(image);
     let mut at = HalfwordAddress(0);
     let mut n: usize = 0;
-    while at.0 < end {
+    while at.0 + 1 < end {
         if out.len() <= n {
             return Listed::Full(at);
         }
-        let item = item_at(table, places, tree, image, at);
+        let item = full_item(table, places, tree, image, at);
         out[n] = item.word;
         at = item.next;
         n += 1;
     }
-    Listed::Items(n as u32)
+    if end <= at.0 {
+        return Listed::Items(n as u32);
+    }
+    if out.len() <= n {
+        return Listed::Full(at);
+    }
+    let last = last_item(table, places, tree, image, at);
+    out[n] = last.word;
+    Listed::Items((n + 1) as u32)
 }
