@@ -734,7 +734,8 @@ def main():
     in_twins = sum(tally[f"{one.name}, twin"] for one in sets)
     print(f"compare_data good: {len(sets)} sets, {tally['tree lines']} tree words; words by set {said}; "
           f"{tally['known']} known words and {tally['words that agree']} that agree on a mask, "
-          f"{tally['listed']} items listed, {tally['last halfwords']} last halfwords, {tally['altered']} altered sets noticed; {tally['cycles']} cycles; {tally['forms']} forms, "
+          f"{tally['listed']} items listed, {tally['last halfwords']} last halfwords, {tally['altered']} altered sets noticed; "
+          f"{tally['cycles']} cycles; {tally['forms']} forms, "
           f"{tally['operands']} operands known by number and text, {tally['altered forms']} altered forms noticed; "
           f"{tally['covered']} sets with a covered instruction refused with 19; {tally['withdrawn']} instructions withdrawn; "
           f"{tally['orders']} orders of the sets, {tally['shuffled leaves']} leaves with another number, {tally['shuffled words']} words "

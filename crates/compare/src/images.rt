@@ -44,7 +44,8 @@ fn entry_at(at: u32) -> u32 {
     others::select(Source::Packed, (high << 16) | half_at(&BYTES, at + 1))
 }
 
-// The item of an entry at an address. No entry here lacks its lower half.
+// The item of an entry at an address. No entry here lacks its lower half: the last halfword by itself begins none, whatever
+// would follow it.
 fn item(entry: u32, at: u32) -> u32 {
     if entry == others::NOTHING {
         return at | (13 << 28);

@@ -42,8 +42,9 @@ atNode (node.Names e) sides = Entry e
 atNode node.Nothing sides = Nothing
 atNode (node.Asks b k) sides = sides b k
 
--- from index i on, in a part of the tree whose last node is n: a zero side ends before the one side (else a node in it is damaged).
--- At most `fuel` tests deep: "no path tests a bit twice", so that a deeper one is refused as damaged is
+-- from index i on, in a part of the tree whose last node is n: a zero side is a part of its own, which ends before the one side, so that
+-- a test in it whose one side lies further on is damaged. At most `fuel` tests deep: "no path tests a bit twice", so that a deeper one is
+-- several, as a damaged one is
 unfoldable pub commonFrom : ℕ → List ℕ → ℕ → ℕ → ℕ → ℕ → Shared
 commonFrom zero ws width n u i = atNode (nodeOf width n i (word ws i)) (λ b k. Several)
 commonFrom (suc fuel) ws width n u i =
