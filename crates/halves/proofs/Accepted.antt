@@ -25,7 +25,7 @@ use Rattle.cell.specs.Step.{free}
 use Rattle.tree.specs.Tree.{Tree, answer, named}
 use Rattle.tree.proofs.Demand.{Right}
 use Rattle.checker.specs.Checker.{accepts}
-use Rattle.checker.proofs.Accepting.{agrees-right, agrees-clear, not-conflict, nothing-clear, accepted, accepted-right}
+use Rattle.checker.proofs.Accepting.{agrees-right, not-conflict, nothing-clear, accepted, accepted-right}
 use Rattle.halves.specs.Common.{commonBy, commonOf}
 use Rattle.halves.specs.declared.Shared.{Shared}
 use Rattle.halves.specs.declared.Shared.the-variants as shared
@@ -60,9 +60,6 @@ module _ (es : List Entry) (width : ℕ) (ws : List ℕ) (yes : accepts es width
 
   answer-is : (w : ℕ) → answer whole w ≡ select es w
   answer-is w = agrees-right es whole start (accepted es width ws yes .whole .right) w (and-zero-r w)
-
-  clear : (w : ℕ) → select es w ≡ ambiguous → ⊥
-  clear w e = agrees-clear es whole start (accepted es width ws yes .whole .right) w (answer-is w ∙ e)
 
   common-tree : commonOf ws u ≡ commonIn whole u
   unfolding commonOf commonBy free
@@ -105,7 +102,8 @@ module _ (es : List Entry) (width : ℕ) (ws : List ℕ) (yes : accepts es width
       (λ t. let r = exists-at differs (2 ^ 16) t in (r .0, r .1, λ z. clash (same-exactly _ _ .1 z) (not-t (r .2))))
       (λ t.
       let s = selects-common (select es (2 ^ 16 * u)) (λ l h. same-exactly _ _ .0 (not-f (exists-none differs (2 ^ 16) t l h))) in
-      absurd (clear (2 ^ 16 * u) (same-choice _ ambiguous (sym s ∙ q))))
+      let z : 2 ^ 16 * u + 0 ≡ 2 ^ 16 * u = omega arith in
+      absurd (right 0 (omega arith) .clear (ap (select es) z ∙ same-choice _ ambiguous (sym s ∙ q))))
 
   pub accepted-common : OfAll es u (commonOf ws u)
   accepted-common =

@@ -39,13 +39,13 @@ told-back none = refl
 told-one : (s : Shared) (o : Option ℕ) → s ≡ told o → named-by s ≡ o
 told-one s o e = ap named-by e ∙ told-back o
 
-pub not-told : (o : Option ℕ) → shared.Several ≡ told o → ⊥
+not-told : (o : Option ℕ) → shared.Several ≡ told o → ⊥
 not-told (some e) q = let z : _≡_ {A = ℕ} 0 1 = cc in omega arith
 not-told none q = let z : _≡_ {A = ℕ} 0 1 = cc in omega arith
 
 -- ---- two sides that say one thing each say it
 
-pub both-told : (x y : Shared) (o : Option ℕ) → bothOf x y ≡ told o → (x ≡ told o) × (y ≡ told o)
+both-told : (x y : Shared) (o : Option ℕ) → bothOf x y ≡ told o → (x ≡ told o) × (y ≡ told o)
 unfolding bothOf
 both-told (shared.Entry e) (shared.Entry f) o q =
     cases (eqb e f)
