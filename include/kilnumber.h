@@ -116,7 +116,7 @@ static inline uint32_t kilnumber_list_place(uint64_t result) { return (uint32_t)
 enum kilnumber_item_kinds {
     KILNUMBER_INSTRUCTION = 12,
     KILNUMBER_UNKNOWN = 13, /* the halfword selects nothing */
-    KILNUMBER_CUT_OFF = 14  /* the image's last halfword, where the missing lower half decides what it is */
+    KILNUMBER_CUT_OFF = 14  /* the image's last halfword, unless all lower halves make it the same 16-bit instruction, or unknown */
 };
 static inline uint32_t kilnumber_item_kind(uint32_t item) { return item >> 28; }
 static inline uint32_t kilnumber_item_entry(uint32_t item) { return item >> 20 & 0xff; }

@@ -2,6 +2,7 @@
 --   `image::list` answers `listOf (readTable ws) tree image room` and `image::step` `stepOf (readTable ws) tree image at`; their items are those
 --   of `itemAt`, a step's mask that of `handedOn`. `halves::in_common` answers `commonOf tree upper`.
 --     kind-12, kind-13, kind-14     the item with the lower half missing
+--     cut-within     an image that was cut within an instruction
 --     zeros-mask     the mask handed on for it
 --     full-words     every other item
 --     found-in-tree     what the code finds in a tree that the checker accepts
@@ -141,6 +142,15 @@ module _ (ws : List ℕ) (t : Table) (reads : readTable ws ≡ result t) (image 
     λ q. (λ e all h. not-cut a e (few e all) (differ (item-short e all h) q), λ all. nothing-not-cut a (differ (item-nothing all) q)),
     λ (not-short, some). three (λ e all h. absurd (not-short e all h)) (λ all. absurd (some all)) (λ c. c),
   )
+
+  -- "Images cut by a transfer end in half of an instruction": if with its lost lower half, l, it was one of more than 16 bits, the item is
+  -- kind 14, whatever zeros below make of it
+  pub cut-within : (l e : ℕ) → l < 2 ^ 16 → select (t .entries) (2 ^ 16 * halfwordAt image a + l) ≡ names e → (Has16 e → ⊥) → is-item (ends (cutWord a))
+  cut-within l e h was long =
+      kind-14 .1 (
+        λ f all short. let same : names f ≡ names e = sym (all l h) ∙ was in let q : f ≡ e = cc in long (rw q at short),
+        λ all. let q : nothing ≡ names e = sym (all l h) ∙ was in let z : _≡_ {A = ℕ} 0 1 = cc in omega arith,
+      )
 
 -- ---- the mask, and full words
 
