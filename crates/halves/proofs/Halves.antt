@@ -10,7 +10,7 @@ use borrow.Author.Tests.{eq-eqb, ltb-true}
 use Rattle.words.specs.Tests.{_or_}
 use Rattle.words.specs.Words.{word, bit}
 use Rattle.words.proofs.Bits.{bit-or, set-own, set-other, set-more, set-upper}
-use Rattle.words.proofs.Logic.{cases, clash, or-i, or-l, or-r}
+use Rattle.words.proofs.Logic.{cases, clash, or-i, or-l, or-r, one-to-one}
 use Rattle.table.specs.Table.{Entry}
 use Rattle.choice.specs.Rule.{Choice, names, nothing, ambiguous}
 use Rattle.flat.specs.declared.Node.the-variants as node
@@ -44,7 +44,7 @@ back nothing = refl
 back ambiguous = refl
 
 pub same-choice : (a b : Choice) → shareOf a ≡ shareOf b → a ≡ b
-same-choice a b e = sym (back a) ∙ ap choiceOf e ∙ back b
+same-choice = one-to-one shareOf choiceOf back
 
 -- over a tree
 unfoldable pub commonIn : Tree → ℕ → Shared

@@ -35,7 +35,7 @@ fromSides Zero zs os = zs
 fromSides One zs os = os
 fromSides Either zs os = bothOf zs os
 
--- at a node, where `sides` is said of a test; a damaged node is on some walk
+-- at a node, where `sides` is said of a test; a damaged node names nothing that all could share
 abbrev pub atNode : Node → (ℕ → ℕ → Shared) → Shared
 atNode node.Damaged sides = Several
 atNode (node.Names e) sides = Entry e
