@@ -177,8 +177,8 @@ static inline uint32_t kilnumber_stored_value(uint64_t result) { return (uint32_
  * After a refusal all of `text` does. `room` is in bytes. Refusals: 2, 4, 12, 18. */
 uint64_t kilnumber_text(uint32_t field, uint32_t value, uint8_t *text, size_t room);
 
-/* Room that is enough for every text. */
-#define KILNUMBER_TEXT_ROOM 28
+/* Room that is enough for every text: the longest has that many bytes. */
+#define KILNUMBER_TEXT_ROOM 23
 
 /* Without a refusal: the length of the text, in bytes. */
 static inline uint32_t kilnumber_text_length(uint64_t result) { return (uint32_t)(result & 0xffffffff); }

@@ -197,7 +197,7 @@ static void texts(void) {
     expect("the length of a text", result, 7);
     expect("how long it is", kilnumber_text_length(result), 7);
     expect("the text, and the byte after it", (uint64_t)memcmp(text, "-0.5000*", 8), 0);
-    expect("room for every text", KILNUMBER_TEXT_ROOM, 28);
+    expect("room for every text", KILNUMBER_TEXT_ROOM, 23);
     expect("the longest text", kilnumber_text(point, top_bit, text, KILNUMBER_TEXT_ROOM), 23);
     expect("its bytes", (uint64_t)memcmp(text, "-32768.0000000000000000*", 24), 0);
     expect("18 alone", kilnumber_text(point, top_bit, text, 22), (uint64_t)KILNUMBER_NO_TEXT_ROOM << 32);

@@ -24,6 +24,7 @@ use Rattle.table.specs.Lawful.{goodTable}
 use Rattle.table.specs.Table.{Entry, Table}
 use Rattle.table.specs.Check.{readTable}
 use Rattle.words.specs.Outcome.{result, refused}
+use Rattle.words.proofs.Outcomes.{not-refused}
 use Rattle.choice.specs.Rule.{Choice, names, nothing, ambiguous, selects, judge}
 use Rattle.selection.specs.Selection.{claims, select}
 use Rattle.choice.proofs.Judging.{answers, selects-names, names-selects, judge-names, judge-nothing}
@@ -282,10 +283,16 @@ module _ (es : List Entry) (width : ℕ) (ws : List ℕ) where
         let a = accepted yes .whole in
         right-walks es width nodes-of ws w (asked held-tree w)
         (λ k. agrees-clear es held-tree start (a .right) w (answer-is w ∙ k))
+        (accepted yes .header)
         (walked w)
         (rw (accepted yes .header, lt-ltb w (2 ^ width) h, walked w))
         (agrees-fresh es width held-tree start (a .right) (a .sound) w .once)
         (le-trans (agrees-short es width held-tree start (a .right) (a .sound) w) (howMany-le (λ i. not (bit 0 i)) width))
+
+-- the call says yes of what the rule accepts
+pub check-accepts : (t : Table) (words : List ℕ) → checkOf (result t) words ≡ result tt → accepts (t .entries) (t .width) words ≡ true
+unfolding checkOf
+check-accepts t words e = cases (accepts (t .entries) (t .width) words) (λ y. y) (λ n. absurd (not-refused (sym (rw n at e))))
 
 -- ---- the written form of a tree that is right
 

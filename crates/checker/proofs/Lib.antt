@@ -1,4 +1,5 @@
 pub mod Accepting
+pub mod Exactly
 pub mod Checking
 pub mod Cases
 pub mod Examples

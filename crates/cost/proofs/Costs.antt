@@ -4,6 +4,7 @@
 --     either-kind, kind-one, kind-six, small     what an entry's cycles are
 --     over-is-two, missing-is-two     what they may not be
 --     no-such-entry, faulty-first     what is refused
+--     other-cycles, twin-alike     words that differ in cycles only
 --     lookup-alike, generate-alike, buffer-alike, measure-alike, decode-alike, encode-alike     what does not depend on cycles
 use mathlib.Core.Path.{_≡_, sym, ap, _∙_, subst}
 use mathlib.Core.List.{List}
@@ -16,16 +17,18 @@ use borrow.Author.Tests.{lt-ltb, le-ltb, ltb-false, le-leb, lt-leb, eqb-true}
 use Rattle.words.specs.Words.{word}
 use Rattle.words.specs.Outcome.{Outcome, result, faulty, refused}
 use Rattle.words.proofs.Logic.{cases, or-e}
-use Rattle.table.specs.Table.{Table, kindOf, hasCycles, opcodePlace, cyclesAt, entryPlace, countOf, widthOf, sizeOf, ownBits}
+use Rattle.table.specs.Table.{Field, Table, kindOf, hasCycles, opcodePlace, cyclesAt, entryPlace, countOf, widthOf, sizeOf, ownBits}
 use Rattle.table.specs.Check.{fine, fault, firstCheck, headCheck, patternCheck, cyclesCheck, entryCheck, tableCheck, readTable}
 use Rattle.table.proofs.Laws.{checks, fine-then, fault-then, then-l, then-r, need-true, length-entries}
 use Rattle.table.proofs.Views.{read-is, entry-check, entry-stops, entry-at, entry-cost}
+use Rattle.layout.specs.Readable.{Small}
 use Rattle.selection.specs.Lookup.{lookOf}
 use Rattle.tree.specs.Generate.{generateOf, bufferOf, measureOf}
 use Rattle.operands.specs.Calls.{decodeOf, encodeOf}
 use Rattle.cost.specs.Cost.{cyclesOf}
-use Rattle.cost.specs.Recosted.{bare}
-use Rattle.cost.proofs.Free.{lookup-free, generate-free, buffer-free, measure-free, decode-free, encode-free}
+use Rattle.cost.specs.Recosted.{bare, OtherCycles, twin}
+use Rattle.cost.proofs.Twins.{other-reads, twin-reads}
+use Rattle.cost.proofs.Free.{changedTable, kept-bare, bare-is, lookup-same, generate-same, buffer-same, measure-same, decode-same, encode-same}
 
 -- ---- an entry's cycles
 
@@ -115,28 +118,50 @@ faulty-of (result t) e n p =
 pub faulty-first : (ws : List ℕ) (e n p : ℕ) → (cyclesOf (readTable ws) e ≡ faulty n p) ↔ (readTable ws ≡ faulty n p)
 faulty-first ws e n p = faulty-of (readTable ws) e n p
 
+-- "differ in cycles only", of words: those of a kind 6 table, and others that differ in the cycles words only, each at most 65,535; those of a kind 1
+-- table, and its twin of kind 6. Both read, and the tables that they say are the same but for their cycles
+module _ (ws : List ℕ) (s : Small ws) (t : Table) (r : readTable ws ≡ result t) where
+  pub other-cycles : kindOf (word ws 0) ≡ 6 → (vs : List ℕ) → OtherCycles ws vs → (u : Table) × (readTable vs ≡ result u) × (bare t ≡ bare u)
+  other-cycles six vs o =
+      let (e, m) = read-is ws t r in
+      let (u, reads, same) = other-reads ws vs s e six o in
+      (u, reads, sym (same ∙ ap bare m))
+
+  pub twin-alike : kindOf (word ws 0) ≡ 1 → (cycles : ℕ → ℕ) → ((k : ℕ) → k < countOf (word ws 0) → cycles k ≤ 65535) → length (twin cycles ws) ≤ 16384
+      → (u : Table) × (readTable (twin cycles ws) ≡ result u) × (bare t ≡ bare u)
+  twin-alike one cycles few room =
+      let (e, m) = read-is ws t r in
+      let (u, reads, same) = twin-reads ws s e one cycles few room in
+      (u, reads, sym (same ∙ ap bare m))
+
 -- "Selection, tree and fields do not depend on cycles, so two tables that differ in cycles only have equal trees": two tables that read, of
 -- whatever kinds, are the same but for their cycles
 module _ (ws vs : List ℕ) (t u : Table) (r : readTable ws ≡ result t) (s : readTable vs ≡ result u) (d : bare t ≡ bare u) where
-  alike : {A : Type 0} (call : Outcome Table → A) → ((x : Table) → call (result (bare x)) ≡ call (result x)) → call (readTable ws) ≡ call (readTable vs)
-  alike call free = rw (r, s) (sym (free t) ∙ ap (λ (x : Table). call (result x)) d ∙ free u)
+  abbrev none : ℕ → ℕ
+  none n = 0
+
+  abbrev same : List Field → List Field
+  same fs = fs
+
+  same-bare : changedTable none same t ≡ changedTable none same u
+  same-bare = bare-is t ∙ d ∙ sym (bare-is u)
 
   pub lookup-alike : (w : ℕ) → lookOf (readTable ws) w ≡ lookOf (readTable vs) w
-  lookup-alike w = alike (λ o. lookOf o w) (λ x. lookup-free x w)
+  lookup-alike w = lookup-same none same kept-bare ws vs t u r s same-bare w
 
   -- the answer, and every word of the buffer
   pub generate-alike : (room : ℕ) → generateOf (readTable ws) room ≡ generateOf (readTable vs) room
-  generate-alike room = alike (λ o. generateOf o room) (λ x. generate-free x room)
+  generate-alike room = generate-same none same kept-bare ws vs t u r s same-bare room
 
   pub buffer-alike : (out : List ℕ) → bufferOf (readTable ws) out ≡ bufferOf (readTable vs) out
-  buffer-alike out = alike (λ o. bufferOf o out) (λ x. buffer-free x out)
+  buffer-alike out = buffer-same none same kept-bare ws vs t u r s same-bare out
 
   pub measure-alike : measureOf (readTable ws) ≡ measureOf (readTable vs)
-  measure-alike = alike measureOf measure-free
+  measure-alike = measure-same none same kept-bare ws vs t u r s same-bare
 
   -- the answer, with the values that are written
   pub decode-alike : (w room : ℕ) → decodeOf (readTable ws) w room ≡ decodeOf (readTable vs) w room
-  decode-alike w room = alike (λ o. decodeOf o w room) (λ x. decode-free x w room)
+  decode-alike w room = decode-same none same kept-bare ws vs t u r s same-bare w room
 
   pub encode-alike : (e : ℕ) (values : List ℕ) → encodeOf (readTable ws) e values ≡ encodeOf (readTable vs) e values
-  encode-alike e values = alike (λ o. encodeOf o e values) (λ x. encode-free x e values)
+  encode-alike e values = encode-same none same kept-bare ws vs t u r s same-bare e values

@@ -20,15 +20,15 @@ pub header-cases {ℓ} : {G : Type ℓ} (h : Header) → (h ≡ Bad → G) → (
 header-cases Bad f g = f refl
 header-cases (Good v n) f g = g v n refl
 
--- a good header's width is what its word says, and there are nodes
-header-says : (x words v n : ℕ) → headerOf x words ≡ Good v n → (v ≡ headerWidth x) × (1 ≤ n)
+-- a good header's width and number of nodes are what its word says, and there are nodes
+header-says : (x words v n : ℕ) → headerOf x words ≡ Good v n → (v ≡ headerWidth x) × (1 ≤ n) × (n ≡ bits 15 0 x)
 unfolding headerOf headerRest
 header-says x words v n h =
     cases (eqb (bits 31 28 x) 7 and eqb (bits 27 22 x) 0)
     (λ t. cases (leb 1 (headerWidth x) and leb (headerWidth x) 32 and leb 1 (bits 15 0 x) and ltb (bits 15 0 x) words)
     (λ s. let q : Good (headerWidth x) (bits 15 0 x) ≡ Good v n = rw (t, s) at h in
     let some-nodes : 1 ≤ bits 15 0 x = leb-true _ _ (and-r _ (and-l _ s)) in
-    let r : bits 15 0 x ≡ n = cc in (cc, rw r at some-nodes))
+    let r : bits 15 0 x ≡ n = cc in (cc, rw r at some-nodes, sym r))
     (λ s. absurd (bad (rw (t, s) at h))))
     (λ t. absurd (bad (rw t at h)))
   where
@@ -40,6 +40,9 @@ header-width x words v n h = header-says x words v n h .0
 
 pub header-nodes : (x words v n : ℕ) → headerOf x words ≡ Good v n → 1 ≤ n
 header-nodes x words v n h = header-says x words v n h .1
+
+pub header-number : (x words v n : ℕ) → headerOf x words ≡ Good v n → n ≡ bits 15 0 x
+header-number x words v n h = header-says x words v n h .2
 
 -- ---- a node
 

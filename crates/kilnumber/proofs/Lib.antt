@@ -1,3 +1,4 @@
+pub mod Parting
 pub mod Simulator
 pub mod Masks
 pub mod Counts

@@ -30,7 +30,7 @@ use Rattle.flat.proofs.Reading.{header-width}
 use Rattle.tree.specs.Tree.{named}
 use Rattle.checker.specs.Checker.{accepts, checkOf}
 use Rattle.tree.specs.Generate.{generateOf, bufferOf}
-use Rattle.checker.proofs.Accepting.{accepted, accepted-right, generated-accepted}
+use Rattle.checker.proofs.Accepting.{check-accepts, accepted, accepted-right, generated-accepted}
 use Rattle.walker.specs.Walked.{walkBytes}
 use Rattle.image.specs.Address.{halfwordAt, wordAt, halfwords}
 use Rattle.image.specs.Items.{itemAt}
@@ -56,10 +56,6 @@ refused-zero bytes w n p x e = ap maskOrZero e
 pub alike : (words : List ℕ) (w v : ℕ) (a : Walk) → walkOf words w ≡ result a → v < 2 ^ (headerWidth (word words 0))
     → bitAnd v (a .mask) ≡ bitAnd w (a .mask) → walkOf words v ≡ result a
 alike words w v a e = walk-alike words w a e v
-
-check-accepts : (t : Table) (words : List ℕ) → checkOf (result t) words ≡ result tt → accepts (t .entries) (t .width) words ≡ true
-unfolding checkOf
-check-accepts t words e = cases (accepts (t .entries) (t .width) words) (λ y. y) (λ n. absurd (not-refused (sym (rw n at e))))
 
 -- a tree that the checker accepts for a table
 module _ (ws words : List ℕ) (t : Table) (reads : readTable ws ≡ result t) (checked : checkOf (readTable ws) words ≡ result tt) where

@@ -6,7 +6,7 @@ use Prim.Native.Nat.{ℕ, _+_, _*_, _/_, _%_, _^_, _<_}
 use native.Mathlib.Omega.{arith}
 use lib.ListN.{length, take}
 use Rattle.words.specs.Bytes.{wordOf, wordsOf}
-use Rattle.words.specs.Outcome.{result}
+use Rattle.words.specs.Outcome.{Outcome, result}
 use Rattle.table.specs.Table.{Entry, Table}
 use Rattle.table.specs.Check.{readTable}
 use Rattle.selection.specs.Selection.{select}
@@ -17,7 +17,10 @@ use Rattle.tree.proofs.Demand.{Right, walk-right}
 use Rattle.flat.proofs.Masks.{path-ones}
 use Rattle.walker.specs.Walked.{walkBytes}
 use Rattle.walker.proofs.Headers.{whole-bytes}
+use Rattle.checker.specs.Checker.{checkOf}
+use Rattle.checker.proofs.Accepting.{check-accepts, accepted-right}
 use Rattle.kilnumber.specs.Packed.{packed, named as namedBits}
+use Rattle.kilnumber.proofs.Parting.{PartsOf, bytes-parts}
 
 -- the bytes of 32-bit words, "each word low byte first"
 unfoldable pub bytesOf : List ℕ → List ℕ
@@ -65,3 +68,19 @@ module _ (ws out : List ℕ) (t : Table) (reads : readTable ws ≡ result t) (n 
       (r : Right (t .entries) (t .width) (size (tree (t .entries) (t .width))) tree-words w)
       × (packed (walkBytes (bytesOf tree-words) w) ≡ namedBits (named (select (t .entries) w)) + length (r .tests) * 2 ^ 16)
   simulated w h = let r = walk-right ws out t reads n generated w h .1 in (r, right-bits _ _ _ _ _ r)
+
+-- a tree that the checker accepts, lent as bytes: each word of the width walks right, and the simulator is answered so
+module _ (ws bytes : List ℕ) (t : Table) (reads : readTable ws ≡ result t) (whole : length bytes % 4 ≡ 0)
+    (checked : checkOf (readTable ws) (wordsOf bytes) ≡ result tt) where
+  pub accepted-bytes : (w : ℕ) → w < 2 ^ (t .width) →
+      (n : ℕ) × (r : Right (t .entries) (t .width) n (wordsOf bytes) w)
+      × (packed (walkBytes bytes w) ≡ namedBits (named (select (t .entries) w)) + length (r .tests) * 2 ^ 16)
+  accepted-bytes w h =
+      let y = check-accepts t (wordsOf bytes) (ap (λ (o : Outcome Table). checkOf o (wordsOf bytes)) (sym reads) ∙ checked) in
+      let r = accepted-right (t .entries) (t .width) (wordsOf bytes) y w h in
+      (_, r, ap packed (sym (whole-bytes bytes w whole) ∙ r .answers))
+
+-- "It returns 64 bits: entry in 7–0, bit 8 for nothing, count in 31–16, number in 39–32 (0 if none), place in 63–48, the rest zero": for all
+-- bytes and every word, finished walks and refused ones
+pub walk-parts : (bytes : List ℕ) (w : ℕ) → PartsOf (walkBytes bytes w) (packed (walkBytes bytes w))
+walk-parts = bytes-parts

@@ -9,5 +9,9 @@ pub mod Turning
 pub mod Exactness
 pub mod Only
 pub mod Refusing
+pub mod Alike
+pub mod Plainness
+pub mod Rooms
+pub mod Shortness
 pub mod Numbers
 pub mod Examples

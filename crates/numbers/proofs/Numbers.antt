@@ -2,39 +2,53 @@
 --   `table::read` answers `readTable ws`; `numbers::signed` answers `signedOf w v` and `numbers::stored` `storedOf w z`; `numbers::put_text` answers
 --   `lengthOf (textOf w v) (length out)` and leaves `bufferAfter (textOf w v) out`: for all words, stored values v, whole numbers z and buffers.
 --     spare-is-two, form-is-four, in-table     field words of a table
---     two-exactly, four-exactly, twelve-exactly     what the calls refuse
+--     fine-exactly, low-free, two-exactly, four-exactly, twelve-exactly, room-exactly, length-exactly     what the calls take and refuse
 --     signed-forms, signed-all, stored-all, signed-small, turned, stored-fits     stored values and whole numbers
---     text-says, minus-exactly, point-of-two, room-exactly, written, unwritten     the text and its buffer
---     decoded-signed, decode-plain, place-plain, misfit-plain     encoding and decoding
+--     text-says, minus-exactly, point-of-two, text-short, text-longest, written, unwritten     the text and its buffer
+--     decoded-signed, plain-words, lookup-plain, generate-plain, buffer-plain, measure-plain, decode-plain, encode-plain, comes-back     the other calls
 use Prim.Native.Nat.{ℕ, _+_, _^_, _≤_, _<_}
-use mathlib.Core.Bool.{true, false, cond}
-use mathlib.Core.Path.{_≡_, refl, ap, _∙_}
-use mathlib.Core.List.{List, [], _∷_, _++_, map}
+use mathlib.Core.Bool.{true, false}
+use mathlib.Core.Path.{_≡_, refl, sym, ap, _∙_}
+use mathlib.Core.List.{List, _++_, map}
 use mathlib.Core.Logic.{_↔_, _⊎_, ⊎-elim, inl, inr}
-use mathlib.Core.Option.{Option, some}
+use mathlib.Core.Option.{some}
 use native.Mathlib.Omega.{arith}
 use lib.Dec.{eqb, ltb, leb}
 use lib.IntN.{ℤ, pos}
 use lib.Signed.{ltZ, mag}
 use lib.ListN.{length, getD, drop}
-use borrow.Author.Tests.{lt-ltb, le-ltb, ltb-true, ltb-false, le-leb, lt-leb, leb-false, eqb-true, eqb-false, eq-eqb, ne-eqb}
-use Rattle.words.specs.Words.{word}
+use borrow.Author.Tests.{lt-ltb, le-ltb, ltb-true, ltb-false, le-leb, eqb-true, eqb-false, eq-eqb, ne-eqb}
+use Rattle.words.specs.Tests.{_and_, _or_}
+use Rattle.words.specs.Words.{word, part, bits}
 use Rattle.words.specs.Outcome.{Outcome, result, faulty, refused}
 use Rattle.words.proofs.Logic.{cases, or-e, not-t}
 use Rattle.words.proofs.Parts.{part-lt}
-use Rattle.table.specs.Table.{Field, Table, fieldAt, kindOf, countOf, widthOf, sizeOf, fieldsOf, fieldWidth, formOf, fractionOf, opcodePlace, fieldsPlace, entryPlace, ownBits}
-use Rattle.table.specs.Check.{Check, fine, fault, spareClear, firstCheck, headCheck, patternCheck, cyclesCheck, fieldWord, fieldCheck, usedBefore, entryCheck, tableCheck, readTable}
+use Rattle.table.specs.Table.{Table, fieldAt, tableOf, kindOf, countOf, widthOf, sizeOf, fieldsOf, fieldWidth, formOf, fractionOf, opcodePlace, fieldsPlace, entryPlace, ownBits}
+use Rattle.table.specs.Check.{Check, fine, fault, _then_, need, spareClear, formFits, firstCheck, headCheck, patternCheck, cyclesCheck, fieldWord, fieldCheck, usedBefore, entryCheck, tableCheck, readTable}
 use Rattle.table.proofs.Laws.{checks, fine-then, fault-then, then-l, then-r, need-true, field-word, field-some, field-below, first-width}
 use Rattle.table.proofs.Views.{read-is, entry-check, entry-stops, entry-field-check, field-at, field-stops}
-use Rattle.operands.specs.Fields.{valueIn, valuesIn, placed, misfit}
+use Rattle.text.specs.Digits.{digitOf, digitsOf, decimalText}
+use Rattle.layout.specs.Layout.{tableWords}
+use Rattle.layout.specs.Readable.{Small, Means}
+use Rattle.selection.specs.Lookup.{lookOf}
+use Rattle.tree.specs.Generate.{generateOf, bufferOf, measureOf}
+use Rattle.operands.specs.Fields.{valueIn}
+use Rattle.operands.specs.Calls.{entry-values, decodeOf, encodeOf}
+use Rattle.operands.proofs.Inverse.{table-good, encode-decode}
+use Rattle.cost.proofs.Free.{changedTable, lookup-same, generate-same, buffer-same, measure-same, decode-same, encode-same}
 use Rattle.numbers.specs.Word.{hasSign, wordCheck}
-use Rattle.numbers.specs.Whole.{numberOf, inRange, valueOf}
+use Rattle.numbers.specs.Whole.{isBelow, numberOf, inRange, valueOf}
+use Rattle.numbers.specs.Decimals.{divided, signText, pointText, fractionText, numberText}
 use Rattle.numbers.specs.Calls.{answerOf, signedOf, storedOf, textOf, lengthOf, bufferAfter}
 use Rattle.numbers.specs.Exact.{Exact}
-use Rattle.numbers.specs.Plain.{plain}
-use Rattle.numbers.proofs.Judging.{width-some, width-most, form-most}
+use Rattle.numbers.specs.Plain.{plain, plainTable}
+use Rattle.numbers.proofs.Judging.{width-some, width-most, form-most, fraction-few}
 use Rattle.numbers.proofs.Answering.{answer-result}
-use Rattle.numbers.proofs.Refusing.{SpareSet, FormFault, Two, Four, spare-set, form-fault, two, four, twelve}
+use Rattle.numbers.proofs.Refusing.{SpareSet, FormFault, Two, Four, Taken, spare-set, form-fault, taken, two, four, twelve}
+use Rattle.numbers.proofs.Alike.{same-kind, same-form, same-fraction}
+use Rattle.numbers.proofs.Plainness.{kept-plain, plain-is, plain-means}
+use Rattle.numbers.proofs.Rooms.{after, passed-fault, passed, not-eighteen, too-long, long}
+use Rattle.numbers.proofs.Shortness.{plain-near, signed-near, whole-short, pointed-short}
 use Rattle.numbers.proofs.Ranges.{number-small}
 use Rattle.numbers.proofs.Turning.{value-back, number-back}
 use Rattle.numbers.proofs.Exactness.{text-exact, minus-below}
@@ -98,27 +112,54 @@ module _ (ws : List ℕ) (t : Table) (r : readTable ws ≡ result t) (k : ℕ) (
 
 -- ---- what the calls refuse: "all with place 0, the lowest bit not judged"
 
-module _ (w v : ℕ) (z : ℤ) where
-  -- "a wrong kind or spare bit gives 2"
-  pub two-exactly : ((signedOf w v ≡ faulty 2 0) ↔ Two w) × ((storedOf w z ≡ faulty 2 0) ↔ Two w) × ((textOf w v ≡ faulty 2 0) ↔ Two w)
+-- a field's word by itself is taken exactly when it is of kind 3, has no spare bit, a width of 1 to 32 and no form fault
+pub fine-exactly : (w : ℕ) → (wordCheck w ≡ fine) ↔ Taken w
+fine-exactly w = taken w
+
+-- "the lowest bit not judged": words that differ in bits 15–8 alone get the same answers
+module _ (w x : ℕ) (upper : bits 31 16 w ≡ bits 31 16 x) (lower : bits 7 0 w ≡ bits 7 0 x) where
+  pub low-free : ((v : ℕ) → signedOf w v ≡ signedOf x v) × ((z : ℤ) → storedOf w z ≡ storedOf x z) × ((v : ℕ) → textOf w v ≡ textOf x v)
+  unfolding signedOf storedOf textOf wordCheck fieldWord spareClear formFits
+  low-free =
+      let k = same-kind w x upper in
+      let f = same-form w x upper in
+      let p = same-fraction w x upper in
+      (λ v. simp (k, f, p, lower), λ z. simp (k, f, p, lower), λ v. simp (k, f, p, lower))
+
+module _ (w v : ℕ) (z : ℤ) (room : ℕ) where
+  abbrev text-call : Outcome ℕ
+  text-call = lengthOf (textOf w v) room
+
+  -- "a wrong kind or spare bit gives 2"; of the call that writes text, for every room
+  pub two-exactly : ((signedOf w v ≡ faulty 2 0) ↔ Two w) × ((storedOf w z ≡ faulty 2 0) ↔ Two w) × ((text-call ≡ faulty 2 0) ↔ Two w)
   unfolding signedOf storedOf textOf
-  two-exactly = (two w _ _, two w _ _, two w _ _)
+  two-exactly = (two w _ _, two w _ _, after (passed-fault _ room 2 0) (two w _ _))
 
   -- "then a width outside 1–32 or a form fault as above 4"
-  pub four-exactly : ((signedOf w v ≡ faulty 4 0) ↔ Four w) × ((storedOf w z ≡ faulty 4 0) ↔ Four w) × ((textOf w v ≡ faulty 4 0) ↔ Four w)
+  pub four-exactly : ((signedOf w v ≡ faulty 4 0) ↔ Four w) × ((storedOf w z ≡ faulty 4 0) ↔ Four w) × ((text-call ≡ faulty 4 0) ↔ Four w)
   unfolding signedOf storedOf textOf
-  four-exactly = (four w _ _, four w _ _, four w _ _)
+  four-exactly = (four w _ _, four w _ _, after (passed-fault _ room 4 0) (four w _ _))
 
   -- "then a value out of range 12"
   pub twelve-exactly : ((signedOf w v ≡ refused 12 0 0) ↔ ((wordCheck w ≡ fine) × (2 ^ fieldWidth w ≤ v)))
       × ((storedOf w z ≡ refused 12 0 0) ↔ ((wordCheck w ≡ fine) × (inRange (hasSign w) (fieldWidth w) z ≡ false)))
-      × ((textOf w v ≡ refused 12 0 0) ↔ ((wordCheck w ≡ fine) × (2 ^ fieldWidth w ≤ v)))
+      × ((text-call ≡ refused 12 0 0) ↔ ((wordCheck w ≡ fine) × (2 ^ fieldWidth w ≤ v)))
   unfolding signedOf storedOf textOf
-  twelve-exactly = (over _, twelve _ _ _, over _)
+  twelve-exactly = (over _, twelve _ _ _, after (passed _ room 12 (λ q. omega arith)) (over _))
     where
       over : {A : Type 0} (r : A) → (answerOf (wordCheck w) (ltb v (2 ^ fieldWidth w)) r ≡ refused 12 0 0) ↔ ((wordCheck w ≡ fine) × (2 ^ fieldWidth w ≤ v))
       over r = let e = twelve (wordCheck w) (ltb v (2 ^ fieldWidth w)) r in
           (λ d. (e .0 d .0, ltb-false _ _ (e .0 d .1)), λ d. e .1 (d .0, le-ltb _ _ (d .1)))
+
+  -- "18, the text buffer is too short, checked after 2, 4 and 12": there is a text, and it is longer than the room
+  pub room-exactly : (text-call ≡ refused 18 0 0) ↔ ((text : List ℕ) × (textOf w v ≡ result text) × (room < length text))
+  unfolding textOf
+  room-exactly = too-long (textOf w v) (not-eighteen (wordCheck w) _ _) room
+
+  -- "returning its length in bytes": there is a text, and it has room
+  pub length-exactly : (n : ℕ) → (text-call ≡ result n) ↔ ((text : List ℕ) × (textOf w v ≡ result text) × (length text ≡ n) × (n ≤ room))
+  unfolding textOf
+  length-exactly n = long (textOf w v) (not-eighteen (wordCheck w) _ _) room n
 
 -- ---- stored values and whole numbers, for every width from 1 to 32 by one argument
 
@@ -170,6 +211,11 @@ module _ (w : ℕ) where
 
 -- ---- the text
 
+-- "for form 2 bits 23–16 for the fraction bits": no other form has a point
+pub point-of-two : (w : ℕ) → wordCheck w ≡ fine → (formOf w ≡ 2 → ⊥) → fractionOf w ≡ 0
+unfolding wordCheck fieldWord spareClear
+point-of-two w good h = eqb-true _ _ (or-e (need-true _ _ _ (then-l _ _ (then-r _ _ (then-l _ _ good)))) (ne-eqb (formOf w) 2 h))
+
 module _ (w v : ℕ) (text : List ℕ) (e : textOf w v ≡ result text) where
   -- the text is exact, of the value's number, and no other text is: what is said of it fixes its bytes
   pub text-says : (z : ℤ) × (signedOf w v ≡ result z) × Exact (fractionOf w) z text × ((other : List ℕ) → Exact (fractionOf w) z other → other ≡ text)
@@ -185,22 +231,27 @@ module _ (w v : ℕ) (text : List ℕ) (e : textOf w v ≡ result text) where
   unfolding textOf
   minus-exactly z d = rw (← answer-result _ _ _ text e .2, ← signed-is w v z d .2) (minus-below (fractionOf w) (numberOf (hasSign w) (fieldWidth w) v))
 
-  -- "18, the text buffer is too short"
-  module _ (out : List ℕ) where
-    pub room-exactly : (lengthOf (textOf w v) (length out) ≡ refused 18 0 0) ↔ (length out < length text)
-    unfolding lengthOf
-    room-exactly =
-        (λ d. cases (leb (length text) (length out)) (λ t. absurd (let q = rw (e, t) at d in let z : _≡_ {A = ℕ} 0 1 = cc in omega arith)) (λ t. leb-false _ _ t), λ h. rw (e, lt-leb _ _ h))
+  -- "to the start of a buffer"; "bytes after the text are unchanged"
+  pub written : (out : List ℕ) → length text ≤ length out → bufferAfter (textOf w v) out ≡ text ++ drop (length text) out
+  unfolding bufferAfter
+  written out h = rw (e, le-leb (length text) (length out) h)
 
-    -- "to the start of a buffer, returning its length in bytes"; "bytes after the text are unchanged"
-    pub written : length text ≤ length out → (lengthOf (textOf w v) (length out) ≡ result (length text)) × (bufferAfter (textOf w v) out ≡ text ++ drop (length text) out)
-    unfolding lengthOf bufferAfter
-    written h = let t = le-leb _ _ h in (rw (e, t), rw (e, t))
+  -- no text is longer than 23 bytes
+  pub text-short : length text ≤ 23
+  unfolding textOf
+  text-short =
+      let a = answer-result _ _ _ text e in
+      let good = a .0 in
+      let h : v < 2 ^ fieldWidth w = ltb-true _ _ (a .1) in
+      rw (← a .2) (cases (eqb (formOf w) 0)
+      (λ t. let p : formOf w ≡ 0 = eqb-true _ _ t in
+      whole-short (fractionOf w) _ (point-of-two w good (λ q. omega arith)) (rw t (plain-near (fieldWidth w) v (width-most w good) h)))
+      (λ t. rw t (pointed-short (fractionOf w) _ (fraction-few w good) (signed-near (fieldWidth w) v (width-some w good) (width-most w good) h))))
 
--- "for form 2 bits 23–16 for the fraction bits": no other form has a point
-pub point-of-two : (w : ℕ) → wordCheck w ≡ fine → (formOf w ≡ 2 → ⊥) → fractionOf w ≡ 0
-unfolding wordCheck fieldWord spareClear
-point-of-two w good h = eqb-true _ _ (or-e (need-true _ _ _ (then-l _ _ (then-r _ _ (then-l _ _ good)))) (ne-eqb (formOf w) 2 h))
+-- 32 bits with 16 fraction bits, of which only the highest is set: -32768.0000000000000000
+pub text-longest : (text : List ℕ) × (textOf 0x32100020 0x80000000 ≡ result text) × (length text ≡ 23)
+unfolding part _and_ _or_ _then_ need spareClear formFits fieldWord wordCheck isBelow numberOf digitOf digitsOf decimalText divided signText pointText fractionText numberText answerOf textOf
+text-longest = (_, refl, refl)
 
 -- "buffer unchanged", where the buffer is too short and where anything else is refused
 module _ (o : Outcome (List ℕ)) (out : List ℕ) where
@@ -213,26 +264,56 @@ module _ (o : Outcome (List ℕ)) (out : List ℕ) where
       go (refused n p x) f = refl
       go (result text) f = cases (leb (length text) (length out)) (λ t. absurd (f (length text) (rw t))) (λ t. rw t)
 
--- ---- "Encoding and decoding keep to stored values": what is taken out, what is placed and what is refused are as of plain fields
+-- ---- "Encoding and decoding keep to stored values"
 
 -- what decoding takes out of any word for a field of a table that reads is a stored value: it has a number
 pub decoded-signed : (ws : List ℕ) (t : Table) → readTable ws ≡ result t → (k : ℕ) → k < countOf (word ws 0) → (j : ℕ) → j < fieldsOf (word ws (entryPlace ws k)) → (w : ℕ)
     → let p = fieldsPlace ws (entryPlace ws k) + j in let v = valueIn (fieldAt ws p) w in signedOf (word ws p) v ≡ result (numberOf (hasSign (word ws p)) (fieldWidth (word ws p)) v)
 decoded-signed ws t r k h j l w = signed-all _ (in-table ws t r k h j l) _ (part-lt w _ _)
 
-pub decode-plain : (fs : List Field) (w : ℕ) → valuesIn (map plain fs) w ≡ valuesIn fs w
-unfolding valuesIn plain
-decode-plain [] w = refl
-decode-plain (f ∷ fs) w = ap (λ (vs : List ℕ). valueIn f w ∷ vs) (decode-plain fs w)
+-- forms change nothing else: every table that reads has words for the same table with plain fields;
+pub plain-words : (ws : List ℕ) (t : Table) → readTable ws ≡ result t → Small ws
+    → Means (kindOf (word ws 0)) (t .width) (plainTable t .entries) (tableWords (kindOf (word ws 0)) (t .width) (plainTable t .entries))
+plain-words = plain-means
 
-pub place-plain : (fs : List Field) (w : ℕ) (vs : List ℕ) → placed w (map plain fs) vs ≡ placed w fs vs
-unfolding placed plain
-place-plain [] w vs = refl
-place-plain (f ∷ fs) w [] = refl
-place-plain (f ∷ fs) w (v ∷ vs) = place-plain fs _ vs
+-- and of these two, as of any two tables that read and differ in forms only, every other call answers the same
+module _ (ws vs : List ℕ) (t u : Table) (r : readTable ws ≡ result t) (s : readTable vs ≡ result u) (d : plainTable t ≡ plainTable u) where
+  abbrev same : ℕ → ℕ
+  same n = n
 
-pub misfit-plain : (fs : List Field) (i : ℕ) (vs : List ℕ) → misfit i (map plain fs) vs ≡ misfit i fs vs
-unfolding misfit plain
-misfit-plain [] i vs = refl
-misfit-plain (f ∷ fs) i [] = refl
-misfit-plain (f ∷ fs) i (v ∷ vs) = ap (λ (o : Option ℕ). cond (ltb v (2 ^ (f .width))) o (some i)) (misfit-plain fs (i + 1) vs)
+  alike : changedTable same (map plain) t ≡ changedTable same (map plain) u
+  alike = plain-is t ∙ d ∙ sym (plain-is u)
+
+  pub lookup-plain : (w : ℕ) → lookOf (readTable ws) w ≡ lookOf (readTable vs) w
+  lookup-plain w = lookup-same same (map plain) kept-plain ws vs t u r s alike w
+
+  -- the answer, and every word of the buffer
+  pub generate-plain : (room : ℕ) → generateOf (readTable ws) room ≡ generateOf (readTable vs) room
+  generate-plain room = generate-same same (map plain) kept-plain ws vs t u r s alike room
+
+  pub buffer-plain : (out : List ℕ) → bufferOf (readTable ws) out ≡ bufferOf (readTable vs) out
+  buffer-plain out = buffer-same same (map plain) kept-plain ws vs t u r s alike out
+
+  pub measure-plain : measureOf (readTable ws) ≡ measureOf (readTable vs)
+  measure-plain = measure-same same (map plain) kept-plain ws vs t u r s alike
+
+  -- the answer, with the values that are written
+  pub decode-plain : (w room : ℕ) → decodeOf (readTable ws) w room ≡ decodeOf (readTable vs) w room
+  decode-plain w room = decode-same same (map plain) kept-plain ws vs t u r s alike w room
+
+  pub encode-plain : (e : ℕ) (values : List ℕ) → encodeOf (readTable ws) e values ≡ encodeOf (readTable vs) e values
+  encode-plain e values = encode-same same (map plain) kept-plain ws vs t u r s alike e values
+
+-- "a signed number in range comes back as itself": numbers that are stored for the fields of an entry of a table that reads, encoded into an
+-- instruction, are decoded as the same stored values, and these turned back are the same numbers
+module _ (ws : List ℕ) (t : Table) (r : readTable ws ≡ result t) (k : ℕ) (zs : List ℤ) (vs : List ℕ) where
+  abbrev form-at : ℕ → ℕ
+  form-at j = word ws (fieldsPlace ws (entryPlace ws k) + j)
+
+  pub comes-back : ((j : ℕ) → j < length vs → storedOf (form-at j) (getD zs j (pos 0)) ≡ result (getD vs j 0))
+      → (w : ℕ) → encodeOf (readTable ws) k vs ≡ result w → (room : ℕ) → 8 ≤ room
+      → (decodeOf (readTable ws) w room ≡ result (entry-values k vs))
+      × ((j : ℕ) → j < length vs → signedOf (form-at j) (getD vs j 0) ≡ result (getD zs j (pos 0)))
+  comes-back stores w e room h =
+      let g = read-is ws t r .0 in
+      (rw g (encode-decode (tableOf ws) (table-good ws g) w room k vs h (rw g at e)), λ j l. turned (form-at j) _ _ .1 (stores j l))

@@ -13,6 +13,7 @@ use Rattle.table.specs.Check.{Check, fine, fault, fieldWord, spareClear, formFi
 use Rattle.table.proofs.Laws.{checks}
 use Rattle.numbers.specs.Word.{wordCheck}
 use Rattle.numbers.specs.Calls.{answerOf}
+use Rattle.numbers.proofs.Judging.{width-some, width-most}
 
 -- ---- what is wrong, in numbers
 
@@ -99,6 +100,36 @@ module _ (w : ℕ) where
     where
       four : eqb (kindOf w) 3 ≡ true → spareClear w ≡ true → (fieldWidth w < 1) ⊎ ((32 < fieldWidth w) ⊎ FormFault w) → Four
       four k s x = (eqb-true _ _ k, (λ t. false≢true (sym (spare-set w .1 t) ∙ s)), x)
+
+-- "a wrong kind or spare bit", "a width outside 1–32 or a form fault": none of these, and "the lowest bit not judged"
+pub record Taken (w : ℕ) : Type 0 where
+  pub kind : kindOf w ≡ 3
+  pub spare : SpareSet w → ⊥
+  pub some : 1 ≤ fieldWidth w
+  pub most : fieldWidth w ≤ 32
+  pub form : FormFault w → ⊥
+
+module _ (w : ℕ) where
+  no-two : wordCheck w ≡ fine → Two w → ⊥
+  no-two g t = let e = two-is w t in let z : _≡_ {A = ℕ} 0 1 = cc in omega arith
+
+  no-four : wordCheck w ≡ fine → Four w → ⊥
+  no-four g f = let e = four-is w f in let z : _≡_ {A = ℕ} 0 1 = cc in omega arith
+
+  pub taken : (wordCheck w ≡ fine) ↔ Taken w
+  taken = (
+    λ g.
+        let k : kindOf w ≡ 3 = cases (eqb (kindOf w) 3) (λ t. eqb-true _ _ t) (λ t. absurd (no-two g (inl (eqb-false _ _ t)))) in
+        let s : SpareSet w → ⊥ = λ x. no-two g (inr x) in
+        record { kind = k; spare = s; some = width-some w g; most = width-most w g; form = λ x. no-four g (k, s, inr (inr x)) },
+    λ t. ⊎-elim
+        (⊎-elim (λ k. absurd (k (t .kind))) (λ s. absurd (t .spare s)))
+        (⊎-elim (λ f. absurd (not-four t (f .2))) (λ g. g))
+        (which w),
+  )
+    where
+      not-four : Taken w → (fieldWidth w < 1) ⊎ ((32 < fieldWidth w) ⊎ FormFault w) → ⊥
+      not-four t = ⊎-elim (λ x. omega (arith, t .some)) (⊎-elim (λ x. omega (arith, t .most)) (λ x. t .form x))
 
 -- ---- the answer
 

@@ -62,7 +62,7 @@ unit-fits f rest h l = let k : f < 32 = omega arith in rw (one-shl f k) (l, pow-
 
 -- ---- how long they are
 
-sign-room : (z : ℤ) → length (signText z) ≤ 1
+pub sign-room : (z : ℤ) → length (signText z) ≤ 1
 unfolding signText
 sign-room (pos n) = omega arith
 sign-room (negsuc n) = omega arith

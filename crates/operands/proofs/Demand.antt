@@ -6,22 +6,30 @@ use mathlib.Core.Logic.{_↔_}
 use mathlib.Core.List.{List}
 use mathlib.Core.Option.{none, some}
 use Prim.Native.Nat.{ℕ, _-_, _%_, _^_, _≤_, _<_}
+use lib.ListN.{length}
 use Rattle.words.specs.Outcome.{result, refused}
 use Rattle.table.specs.Table.{Entry, entryNumber, tableOf}
 use Rattle.table.specs.Check.{fine, tableCheck, readTable}
 use Rattle.selection.specs.Lookup.{lookOf}
 use Rattle.selection.proofs.Formula.{Selects, Contested, Unclaimed}
-use Rattle.operands.specs.Calls.{entry-values, decodeOf, encodeOf}
-use Rattle.operands.proofs.Looking.{looks-entry, looks-nothing, looks-ambiguous}
+use Rattle.operands.specs.Calls.{entry-values, none-selected, decodeOf, encodeOf}
+use Rattle.operands.proofs.Looking.{looks-wide, looks-entry, looks-nothing, looks-ambiguous}
 use Rattle.operands.proofs.Inverse.{table-good, looked-up, decode-reads, encode-reads, decode-encode, encode-decode}
-use Rattle.operands.proofs.Below.{made-below}
+use Rattle.operands.proofs.Held.{Values, Holds, Asked, FirstMisfit}
+use Rattle.operands.proofs.Exactly.{ten, seven, six, no-entry, an-entry, eleven, twelve, thirteen, the-word}
 
--- a table that reads, and a word of its width
+-- ---- lookup, of a table that reads: "lookup 7, 6"; each answer exactly when, so that there is no other
+
+-- 7 exactly when the "word has a bit at or above the width"
+pub lookup-wide : (ws : List ℕ) → tableCheck ws ≡ fine → (w : ℕ) → (lookOf (readTable ws) w ≡ refused 7 0 0) ↔ (2 ^ (tableOf ws .width) ≤ w)
+lookup-wide = looks-wide
+
+-- else, of a word of the width:
 module _ (ws : List ℕ) (reads : tableCheck ws ≡ fine) (w : ℕ) (of-width : w < 2 ^ (tableOf ws .width)) where
   abbrev entries : List Entry
   entries = tableOf ws .entries
 
-  -- "Lookup selects what the matching, exclusion and most-specific rules name":
+  -- "Looking a word up selects the entry that the published matching and exclusion formula, with the most-specific rule, names.":
   -- an entry exactly when it claims the word and is more specific than every other entry that claims it,
   pub lookup-entry : (e : ℕ) → (lookOf (readTable ws) w ≡ result (some e)) ↔ Selects entries w e
   lookup-entry e = looks-entry ws reads w of-width e
@@ -34,9 +42,55 @@ module _ (ws : List ℕ) (reads : tableCheck ws ≡ fine) (w : ℕ) (of-width : 
   pub lookup-ambiguous : (lookOf (readTable ws) w ≡ refused 6 0 w) ↔ Contested entries w
   lookup-ambiguous = looks-ambiguous ws reads w of-width
 
--- "decode and encode are each other's inverse", for every list of words and every word: where the bits below the own bits of the entry
--- that the word selects are zero, for every entry and values, decoding into eight words or more gives that entry and those values
--- exactly when encoding that entry with those values gives that word
+-- ---- decoding, of a table that reads: "decoding 10, 7, 6"; each answer exactly when, so that there is no other
+module _ (ws : List ℕ) (reads : tableCheck ws ≡ fine) (w room : ℕ) where
+  -- 10 exactly when the "field buffer" is "under 8 words"
+  pub decode-room : (decodeOf (readTable ws) w room ≡ refused 10 0 0) ↔ (room < 8)
+  decode-room = rw reads (ten (tableOf ws) w room)
+
+  -- else 7 exactly when the "word has a bit at or above the width"
+  pub decode-wide : (decodeOf (readTable ws) w room ≡ refused 7 0 0) ↔ ((8 ≤ room) × (2 ^ (tableOf ws .width) ≤ w))
+  decode-wide = rw reads (seven (tableOf ws) w room)
+
+  -- else 6 with the word exactly when it is ambiguous
+  pub decode-ambiguous : (decodeOf (readTable ws) w room ≡ refused 6 0 w)
+      ↔ ((8 ≤ room) × (w < 2 ^ (tableOf ws .width)) × Contested (tableOf ws .entries) w)
+  decode-ambiguous = rw reads (six (tableOf ws) w room)
+
+  -- else an entry with values exactly when it is the selected one and the values are the word's bits in its fields
+  pub decode-entry : (e : ℕ) (vs : List ℕ) → (decodeOf (readTable ws) w room ≡ result (entry-values e vs))
+      ↔ ((8 ≤ room) × (w < 2 ^ (tableOf ws .width)) × Selects (tableOf ws .entries) w e × Values (entryNumber (tableOf ws .entries) e .fields) w vs)
+  decode-entry e vs = rw reads (an-entry (tableOf ws) w room e vs)
+
+  -- and nothing exactly when no entry claims the word
+  pub decode-nothing : (decodeOf (readTable ws) w room ≡ result none-selected)
+      ↔ ((8 ≤ room) × (w < 2 ^ (tableOf ws .width)) × Unclaimed (tableOf ws .entries) w)
+  decode-nothing = rw reads (no-entry (tableOf ws) w room)
+
+-- ---- encoding, of a table that reads: "encoding 11, 12, 13"; each answer exactly when, so that there is no other
+module _ (ws : List ℕ) (reads : tableCheck ws ≡ fine) (e : ℕ) (vs : List ℕ) where
+  abbrev entry : Entry
+  entry = entryNumber (tableOf ws .entries) e
+
+  -- 11 exactly for "no such entry, or wrong count of values"
+  pub encode-unasked : (encodeOf (readTable ws) e vs ≡ refused 11 0 0) ↔ (Asked (tableOf ws .entries) e vs → ⊥)
+  encode-unasked = rw reads (eleven (tableOf ws) (table-good ws reads) e vs)
+
+  -- else 12 exactly when a "value does not fit its field", with the "index of the first such value"
+  pub encode-misfit : (k : ℕ) → (encodeOf (readTable ws) e vs ≡ refused 12 k 0) ↔ (Asked (tableOf ws .entries) e vs × FirstMisfit (entry .fields) vs k)
+  encode-misfit k = rw reads (twelve (tableOf ws) (table-good ws reads) e vs k)
+
+  -- else the word that holds the values, exactly when it selects the entry
+  pub encode-word : (w : ℕ) → (encodeOf (readTable ws) e vs ≡ result w) ↔ (Holds (tableOf ws .width) entry vs w × Selects (tableOf ws .entries) w e)
+  encode-word w = rw reads (the-word (tableOf ws) (table-good ws reads) e vs w)
+
+  -- and 13 with that word exactly when it does not: "word made does not select that entry"
+  pub encode-unselected : (w : ℕ) → (encodeOf (readTable ws) e vs ≡ refused 13 0 w)
+      ↔ ((e < length (tableOf ws .entries)) × Holds (tableOf ws .width) entry vs w × (Selects (tableOf ws .entries) w e → ⊥))
+  encode-unselected w = rw reads (thirteen (tableOf ws) (table-good ws reads) e vs w)
+
+-- "For a word whose bits below the selected entry's own bits are zero, decoding into eight words or more gives an entry and field values
+-- exactly when encoding that entry with those values gives that word.": for every list of words and every word, entry and values
 pub inverse : (ws : List ℕ) (w : ℕ)
     → ((e : ℕ) → lookOf (readTable ws) w ≡ result (some e) → w % 2 ^ (tableOf ws .width - entryNumber (tableOf ws .entries) e .size) ≡ 0)
     → (room : ℕ) → 8 ≤ room → (e : ℕ) (vs : List ℕ)
@@ -52,4 +106,4 @@ inverse ws w clean room h e vs = (
 -- a word that encoding makes has no bit below its entry's own bits
 pub made-clean : (ws : List ℕ) (w e : ℕ) (vs : List ℕ) → encodeOf (readTable ws) e vs ≡ result w
     → w % 2 ^ (tableOf ws .width - entryNumber (tableOf ws .entries) e .size) ≡ 0
-made-clean ws w e vs d = made-below ws (encode-reads ws e vs w d) w e vs d
+made-clean ws w e vs d = encode-word ws (encode-reads ws e vs w d) e vs w .0 d .0 .below

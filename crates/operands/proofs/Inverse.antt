@@ -80,7 +80,7 @@ module _ (es : List Entry) (w e : ℕ) (s : select es w ≡ names e) where
   selected-matches = eqb-true _ _ (and-l _ (and-l _ (selected-first .1)))
 
 -- a word of the width with no bit below the own bits lies in them
-own-all : (width size w : ℕ) → size ≤ width → w < 2 ^ width → w % 2 ^ (width - size) ≡ 0 → bitAnd w (ownBits width size) ≡ w
+pub own-all : (width size w : ℕ) → size ≤ width → w < 2 ^ width → w % 2 ^ (width - size) ≡ 0 → bitAnd w (ownBits width size) ≡ w
 unfolding part
 own-all width size w h l z =
     let s : size + (width - size) ≡ width = omega arith in

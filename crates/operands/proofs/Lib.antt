@@ -4,8 +4,9 @@ pub mod Coding
 pub mod Answering
 pub mod Confirming
 pub mod Looking
-pub mod Below
 pub mod Counting
+pub mod Held
+pub mod Exactly
 pub mod Demand
 pub mod Taking
 pub mod Cases

@@ -3,10 +3,13 @@ use mathlib.Core.Path.{_≡_, refl, sym, ap, _∙_}
 use mathlib.Core.Logic.{_↔_}
 use mathlib.Core.List.{List}
 use mathlib.Core.Option.{none, some}
-use Prim.Native.Nat.{ℕ, _^_, _<_}
+use Prim.Native.Nat.{ℕ, _^_, _≤_, _<_}
 use native.Mathlib.Omega.{arith}
-use borrow.Author.Tests.{lt-ltb}
+use lib.Dec.{ltb}
+use borrow.Author.Tests.{lt-ltb, le-ltb, ltb-false}
 use Rattle.words.specs.Outcome.{result, refused}
+use Rattle.words.proofs.Logic.{cases}
+use Rattle.words.proofs.Outcomes.{not-refused, other-number}
 use Rattle.table.specs.Table.{tableOf}
 use Rattle.table.specs.Check.{fine, tableCheck, readTable}
 use Rattle.choice.specs.Rule.{Choice, names, nothing, ambiguous}
@@ -29,6 +32,18 @@ chose-ambiguous : (w : ℕ) (c : Choice) → lookedUp w c ≡ refused 6 0 w → 
 chose-ambiguous w (names i) h = absurd (let z : _≡_ {A = ℕ} 0 1 = cc in omega arith)
 chose-ambiguous w nothing h = absurd (let z : _≡_ {A = ℕ} 0 1 = cc in omega arith)
 chose-ambiguous w ambiguous h = refl
+
+not-wide : (w : ℕ) (c : Choice) → lookedUp w c ≡ refused 7 0 0 → ⊥
+not-wide w (names i) h = not-refused h
+not-wide w nothing h = not-refused h
+not-wide w ambiguous h = other-number h (λ z. omega arith)
+
+pub looks-wide : (ws : List ℕ) → tableCheck ws ≡ fine → (w : ℕ) → (lookOf (readTable ws) w ≡ refused 7 0 0) ↔ (2 ^ (tableOf ws .width) ≤ w)
+unfolding lookOf
+looks-wide ws reads w = (
+  λ h. cases (ltb w (2 ^ (tableOf ws .width))) (λ t. absurd (not-wide w (select (tableOf ws .entries) w) (rw (reads, t) at h))) (λ t. ltb-false _ _ t),
+  λ h. rw (reads, le-ltb w _ h),
+)
 
 module _ (ws : List ℕ) (reads : tableCheck ws ≡ fine) (w : ℕ) (of-width : w < 2 ^ (tableOf ws .width)) where
   looks : lookOf (readTable ws) w ≡ lookedUp w (select (tableOf ws .entries) w)

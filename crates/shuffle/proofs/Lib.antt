@@ -3,5 +3,8 @@ pub mod Moving
 pub mod Shuffling
 pub mod Answering
 pub mod Generating
+pub mod Renumbering
+pub mod Items
+pub mod Listings
 pub mod Reordering
 pub mod Examples

@@ -3,12 +3,15 @@
 --   `measureOf (readTable ws)`, `selection::lookup` `lookOf (readTable ws) w`, `operands::decode` `decodeOf (readTable ws) w (length out)`, whose
 --   `bufferAfter` it leaves, `operands::encode` `encodeOf (readTable ws) e values`, and `walker::walk` `walkOf words w`.
 --     permuted (Permutations.antt)     every permutation of a list of entries is an order of it
+--     reordered-words     every table that reads has words for every order of its entries
 --     generated-alike     refused alike for 5, for 6 with the word, and for 19; else the same length
 --     refused-same, after-trees     what a refusal leaves, and what stands after the trees
 --     word-moved, others-same, leaf-names, walk-moved     the words of the two trees, and their walks
 --     reached-alike     who is reached
 --     entries-same, sized-alike, lookup-moved, decode-moved, fields-same, encode-moved     the other calls: the moved entry, and nothing else
-use Prim.Native.Nat.{ℕ, _+_, _^_, _<_}
+--     names-only     a tree that was written names only entries of its table
+--     cycles-moved, count-moved, check-moved, list-moved, items-moved, step-moved     and these, of trees with their leaves renumbered
+use Prim.Native.Nat.{ℕ, _+_, _*_, _^_, _<_}
 use native.Mathlib.Omega.{arith}
 use mathlib.Core.Path.{_≡_, sym, ap, ap₂, _∙_}
 use mathlib.Core.Logic.{_↔_}
@@ -16,24 +19,38 @@ use mathlib.Core.List.{List}
 use lib.ListN.{length, drop, replicate, List·getD-map}
 use Rattle.words.specs.Words.{word, part}
 use Rattle.words.specs.Outcome.{Outcome, result}
-use Rattle.table.specs.Table.{Table, entryNumber, kindOf}
+use Rattle.table.specs.Table.{Entry, Table, entryNumber, kindOf}
 use Rattle.table.specs.Check.{readTable}
 use Rattle.choice.specs.Rule.{names}
+use Rattle.layout.specs.Layout.{tableWords}
+use Rattle.layout.specs.Readable.{Small, Means}
+use Rattle.layout.proofs.Drawing.{drawn-words}
 use Rattle.selection.specs.Lookup.{lookOf}
 use Rattle.operands.specs.Calls.{Decoded, decodeOf, bufferAfter, encodeOf}
 use Rattle.flat.specs.Walk.{Walk, walkOf}
 use Rattle.tree.specs.Tree.{tree, size}
-use Rattle.tree.specs.Written.{leafWord, written}
+use Rattle.tree.specs.Written.{headerWord, leafWord, written}
 use Rattle.tree.specs.Generate.{measured, generateOf, bufferOf, surveyOf, measureOf}
 use Rattle.tree.proofs.Demand.{read-sane, judgement, flat-small, buffer-is, word-is, after-is, refused-zero}
 use Rattle.tree.proofs.Reach.{Reached}
 use Rattle.shuffle.specs.Shuffled.{Shuffled}
-use Rattle.shuffle.specs.Moved.{movedWord, movedWalk, movedAnswer, movedDecoded, Alike}
+use Rattle.cost.specs.Cost.{cyclesOf}
+use Rattle.withdrawal.specs.Counted.{changedOf}
+use Rattle.checker.specs.Checker.{checkOf}
+use Rattle.image.specs.declared.HalfwordAddress.{HalfwordAddress}
+use Rattle.image.specs.Listing.{listOf, bufferOf as itemsOf, stepOf}
+use Rattle.shuffle.specs.Moved.{movedWords, NamesOnly, movedItems, itemsLeft, movedStepped, movedWord, movedWalk, movedAnswer, movedDecoded, Alike}
 use Rattle.shuffle.proofs.Permutations.{turned}
 use Rattle.shuffle.proofs.Answering.{look-shuffled, decode-shuffled, buffer-moved, encode-shuffled}
+use Rattle.shuffle.proofs.Listings.{check-shuffled, list-shuffled, buffer-shuffled, step-shuffled, cycles-shuffled, count-shuffled}
 use Rattle.shuffle.proofs.Moving.{size-moved, depth-moved, stays, leaf-moved}
-use Rattle.shuffle.proofs.Shuffling.{reached-moved, as-many}
+use Rattle.shuffle.proofs.Shuffling.{within, reached-moved, as-many}
 use Rattle.shuffle.proofs.Generating.{written-shuffled, names-entry, walks-shuffled, judged-shuffled}
+
+-- a table that reads has, for every order of its entries, words of 32 bits, of its kind, that read as the table in that order
+pub reordered-words : (ws : List ℕ) (t : Table) → readTable ws ≡ result t → Small ws → (fs : List Entry) → Shuffled (t .entries) fs
+    → Means (kindOf (word ws 0)) (t .width) fs (tableWords (kindOf (word ws 0)) (t .width) fs)
+reordered-words ws t reads s fs order = drawn-words ws t reads s fs (order .from) (within fs (t .entries) (turned order))
 
 -- ---- two tables that read, of one width, the entries of the second in another order
 
@@ -99,6 +116,17 @@ module _ (ws vs : List ℕ) (t u : Table) (reads : readTable ws ≡ result t) (a
             let few : e < 256 = omega (arith, sane .short) in
             (e, l, at-i ∙ q, word-moved ∙ ap (movedWord (s .to)) (at-i ∙ q) ∙ sym (leaf-moved (s .to) (names e) (λ d p. let z : e ≡ d = cc in rw z at few)), s .each e l)
 
+      -- each tree that is written names only entries of its table
+      pub names-only : NamesOnly (t .entries) (bufferOf (readTable ws) out)
+      unfolding written headerWord part
+      names-only i h k =
+          let g = tree (t .entries) (t .width) in
+          let small = flat-small ws out t reads n generated in
+          let long = judgement ws out t reads n generated .1 in
+          let first : word (bufferOf (readTable ws) out) 0 ≡ 7 * 2 ^ 28 + t .width * 2 ^ 16 + size g = word-is ws out t reads n generated 0 (omega arith) in
+          let r = leaf-names i (omega arith) k in
+          (r .0, r .1, r .2)
+
   -- ---- "For 19 the two tables are refused alike, though the lowest entry may differ"
 
   -- an entry is selected by some word of the width exactly when the moved one is (that the place may differ: Examples.antt, lowest-differs)
@@ -134,3 +162,28 @@ module _ (ws vs : List ℕ) (t u : Table) (reads : readTable ws ≡ result t) (a
 
   pub encode-moved : (e : ℕ) → e < length (t .entries) → (values : List ℕ) → encodeOf (readTable vs) (s .to e) values ≡ encodeOf (readTable ws) e values
   encode-moved e h values = rw (reads, also) (encode-shuffled t u s e h values)
+
+  -- an entry's cycles, and how many words of a list its withdrawal changes, are those of the moved entry
+  pub cycles-moved : (e : ℕ) → e < length (t .entries) → cyclesOf (readTable vs) (s .to e) ≡ cyclesOf (readTable ws) e
+  cycles-moved e h = rw (reads, also) (cycles-shuffled t u wide s (read-sane ws t reads .short) e h)
+
+  pub count-moved : (e : ℕ) → e < length (t .entries) → (list : List ℕ) → changedOf (readTable vs) (s .to e) list ≡ changedOf (readTable ws) e list
+  count-moved e h list = rw (reads, also) (count-shuffled t u wide s (read-sane ws t reads .short) e h list)
+
+  -- of a tree, whoever made it, that names only entries of the table, and the same with its leaves renumbered:
+  module _ (words : List ℕ) (only : NamesOnly (t .entries) words) where
+    -- the check says the same,
+    pub check-moved : checkOf (readTable vs) (movedWords (s .to) words) ≡ checkOf (readTable ws) words
+    check-moved = rw (reads, also) (check-shuffled t u wide s (read-sane ws t reads .short) words only)
+
+    -- a listing answers the same, and leaves the moved items,
+    pub list-moved : (image : List ℕ) (room : ℕ) → listOf (readTable vs) (movedWords (s .to) words) image room ≡ listOf (readTable ws) words image room
+    list-moved image room = rw (reads, also) (list-shuffled t u wide s (read-sane ws t reads .short) words only image room)
+
+    pub items-moved : (image out : List ℕ) → itemsOf (readTable vs) (movedWords (s .to) words) image out
+        ≡ movedItems (s .to) (itemsLeft (listOf (readTable ws) words image (length out)) (length out)) (itemsOf (readTable ws) words image out)
+    items-moved image out = rw (reads, also) (buffer-shuffled t u wide s (read-sane ws t reads .short) words only image out)
+
+    -- and a step gives the moved item, with the same address after it and the same mask
+    pub step-moved : (image : List ℕ) (a : HalfwordAddress) → stepOf (readTable vs) (movedWords (s .to) words) image a ≡ movedStepped (s .to) (stepOf (readTable ws) words image a)
+    step-moved image a = rw (reads, also) (step-shuffled t u wide s (read-sane ws t reads .short) words only image a)

@@ -174,6 +174,10 @@ tableOf ws = record { width = widthOf (word ws 0); entries = entriesAt ws (count
 abbrev pub entryNumber : List Entry → ℕ → Entry
 entryNumber es i = getD es i (record { label = 0; size = 0; opcode = record { mask = 0; value = 0 }; cycles = 0; fields = []; conditions = [] })
 
+-- field number j of an entry's
+abbrev pub fieldNumber : List Field → ℕ → Field
+fieldNumber fs j = getD fs j (record { low = 0; width = 0; form = 0; fraction = 0 })
+
 -- "A short entry stands at the top of the word: its own bits are width−1 down to width−length"
 abbrev pub ownBits : ℕ → ℕ → ℕ
 ownBits width size = run (width - size) size

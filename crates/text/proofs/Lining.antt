@@ -21,10 +21,13 @@ few-digits (suc most) (suc m) zero h = absurd (omega arith)
 few-digits (suc most) (suc m) (suc k) h =
     simp length-append (omega (arith, few-digits most (suc m / 10) k (omega (arith, pow-suc 10 k))))
 
+pub decimal-few : (n k : ℕ) → n < 10 ^ suc k → length (decimalText n) ≤ suc k
+unfolding decimalText
+decimal-few n k h = simp length-append (omega (arith, few-digits n (n / 10) k (omega (arith, pow-suc 10 k))))
+
 -- so one of 32 bits has ten
 pub decimal-room : (n : ℕ) → n < 2 ^ 32 → length (decimalText n) ≤ 10
-unfolding decimalText
-decimal-room n h = simp length-append (omega (arith, few-digits n (n / 10) 9 (omega arith)))
+decimal-room n h = decimal-few n 9 (omega arith)
 
 pub hex-room : (w : ℕ) → length (hexText w) ≤ 8
 unfolding hexDigits hexText

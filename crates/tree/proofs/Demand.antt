@@ -35,27 +35,32 @@ use Rattle.tree.specs.Tree.{Tree, tree, size, asked, named, conflict}
 use Rattle.tree.specs.Written.{written}
 use Rattle.tree.specs.Reach.{lowestUnreached}
 use Rattle.tree.specs.Generate.{fits, judged, judgedIn, generateOf, leftBy, bufferOf}
+use Rattle.flat.specs.Nodes.{headerOf}
+use Rattle.flat.specs.declared.Header.the-variants.{Good}
 use Rattle.flat.specs.Walk.{arrives, path, maskOf, walkOf}
 use Rattle.tree.proofs.Theorem.{tree-right, tree-short, tree-once, tree-conflict, tree-sound, conflict-found}
 use Rattle.tree.proofs.Sizes.{length-nodes}
 use Rattle.tree.proofs.Reach.{Reached, none-exactly}
-use Rattle.tree.proofs.Paths.{sound-tree, path-whole, walk-written}
+use Rattle.tree.proofs.Paths.{sound-tree, header-whole, path-whole, walk-written}
 
--- a walk by w of these words, a tree of n nodes, is right: it names exactly the selected entry (or nothing), tests no bit twice, and counts truly
+-- a walk by w of these words, a tree of n nodes, is right
 pub record Right (es : List Entry) (width n : ℕ) (words : List ℕ) (w : ℕ) : Type 0 where
   -- the word is not ambiguous: it selects an entry or nothing
   pub clear : select es w ≡ ambiguous → ⊥
+  -- the words are those of a tree of the width with n nodes, so that the path is the walk's own
+  pub header : headerOf (word words 0) (length words) ≡ Good width n
   -- the bits that w's path tests, in order, and what the path names
   pub tests : List ℕ
   pub walks : path n words width n w 1 ≡ arrives (named (select es w)) tests
-  -- what the walk answers
+  -- "the walk ends without a refusal"; "The count it reports equals the number of tests on that path
   pub answers : walkOf words w ≡ result (record { entry = named (select es w); count = length tests; mask = maskOf tests })
-  -- it names an entry exactly when that claims the word and is more specific than every other entry that does,
+  -- "It names an entry exactly when that entry is the selected one,": it claims the word and is more specific than every other that does
   pub selected : (e : ℕ) → (named (select es w) ≡ some e) ↔ Selects es w e
-  -- and nothing exactly when no entry claims the word
+  -- "and names nothing exactly when no entry claims the word."
   pub unclaimed : (named (select es w) ≡ none) ↔ Unclaimed es w
-  -- no bit is tested twice, and the count is at most the width
+  -- "Its path tests no bit twice."
   pub once : distinct tests ≡ true
+  -- and is at most the width."
   pub few : length tests ≤ width
 
 -- ---- what a choice names
@@ -72,14 +77,16 @@ named-nothing ambiguous h q = absurd (h refl)
 
 -- a path of these tests, and the walk that answers so
 pub right-walks : (es : List Entry) (width n : ℕ) (words : List ℕ) (w : ℕ) (tests : List ℕ) → (select es w ≡ ambiguous → ⊥)
+    → headerOf (word words 0) (length words) ≡ Good width n
     → path n words width n w 1 ≡ arrives (named (select es w)) tests
     → walkOf words w ≡ result (record { entry = named (select es w); count = length tests; mask = maskOf tests })
     → distinct tests ≡ true → length tests ≤ width → Right es width n words w
-right-walks es width n words w tests clear walks answers once few =
+right-walks es width n words w tests clear header walks answers once few =
     let selects = names-exactly es w in
     let claimless = nothing-exactly es w in
     record {
       clear = clear;
+      header = header;
       tests = tests;
       walks = walks;
       answers = answers;
@@ -186,6 +193,7 @@ module _ (ws out : List ℕ) (t : Table) (reads : readTable ws ≡ result t) whe
       let sound = sound-tree (t .entries) (t .width) good (sane .short) in
       right-walks (t .entries) (t .width) (size grown) (flat ++ rest) w (asked grown w)
       (tree-sound (t .entries) (t .width) good clean w)
+      (header-whole (t .width) grown rest w (sane .wide) (sane .narrow) small sound)
       (rw (← (tree-right (t .entries) (t .width) good w)) (path-whole (t .width) grown rest w (sane .wide) (sane .narrow) small sound))
       (rw (← (tree-right (t .entries) (t .width) good w)) (walk-written (t .width) grown rest w (sane .wide) (sane .narrow) small sound h))
       (tree-once (t .entries) (t .width) good w)
@@ -233,7 +241,7 @@ module _ (ws out : List ℕ) (t : Table) (reads : readTable ws ≡ result t) whe
   unfolding bufferOf
   refused-zero h = rw reads (left-zero (generateOf (result t) (length out)) (λ n q. h n (rw reads q)))
 
--- ---- demand 3: a table that reads without fault, and a buffer
+-- ---- demand 3: "Take any table that reads without fault and whose tree, as document 01 makes it, fits the lent buffer within the size limit."
 
 module _ (ws out : List ℕ) (t : Table) (reads : readTable ws ≡ result t) where
   -- a conflict of the tree is a word of the width that is ambiguous, and there is one where such a word is
@@ -249,12 +257,12 @@ module _ (ws out : List ℕ) (t : Table) (reads : readTable ws ≡ result t) whe
       let c = conflict-found (tree (t .entries) (t .width)) start w (tree-right (t .entries) (t .width) (sane ws out t reads .good) w ∙ a) in
       (c .0, answered ws t reads (length out) ∙ rw (c .1, f))
 
-  -- "Generating refuses as ambiguous exactly when an ambiguous word exists, and gives such a word". A word that it gives is one of the width
-  -- that is claimed by an entry, and by none that is more specific than all the others that claim it;
+  -- "The word returned is then such a word.";
   pub refused-word : (w : ℕ) → generateOf (readTable ws) (length out) ≡ refused 6 0 w → (w < 2 ^ (t .width)) × Contested (t .entries) w
   refused-word w e = let c = conflict-word w e in (c .0, ambiguous-exactly (t .entries) w .0 (c .1))
 
-  -- and where the tree fits ("Fit is decided before ambiguity") it is refused with 6 exactly when there is such a word;
+  -- "Generating is refused as ambiguous exactly when some word of the width is ambiguous: at least one entry claims it, and none of those that
+  -- claim it is more specific than all the others."
   pub refused-exactly : fits (tree (t .entries) (t .width)) (length out) ≡ true
       → ((w : ℕ) × (generateOf (readTable ws) (length out) ≡ refused 6 0 w)) ↔ ((w : ℕ) × (w < 2 ^ (t .width)) × Contested (t .entries) w)
   refused-exactly f = (
@@ -280,7 +288,7 @@ module _ (ws out : List ℕ) (t : Table) (reads : readTable ws ≡ result t) whe
       (λ q. clear-judged ws t reads (length out) f clear q)
       (λ e q. absurd (nineteen e (clear-judged ws t reads (length out) f clear q)))
 
-  -- "else every walk of the written tree names exactly the selected entry, tests no bit twice, and counts truly":
+  -- "Otherwise, whatever word of the width is walked through the tree written, which is that tree (`buffer-is`), the walk ends without a refusal.":
   -- in the whole buffer, and in the n words that were answered ("words lent after them change no walk")
   pub walk-right : (n : ℕ) → generateOf (readTable ws) (length out) ≡ result n → (w : ℕ) → w < 2 ^ (t .width)
       → Right (t .entries) (t .width) (size (tree (t .entries) (t .width))) (bufferOf (readTable ws) out) w

@@ -4,7 +4,7 @@
 --     leaf-exactly (Reach.antt)     a leaf of the tree names an entry exactly when some word of the width selects it
 --     lowest-refused, some-refused     when generating is refused with 19, and its place
 --     after-six, all-zero     what 19 comes after, and what it leaves
---     sized-lowest     the same of sizing
+--     sized-lowest, sized-some, sized-after     the same of sizing
 --     walks-asked     the third demand, of every table that is refused neither by 6 nor by 19
 use Prim.Native.Nat.{ℕ, _^_, _<_}
 use mathlib.Core.Path.{_≡_, sym, _∙_}
@@ -72,10 +72,22 @@ pub all-zero : (ws out : List ℕ) (t : Table) → readTable ws ≡ result t →
 all-zero ws out t reads e lost = refused-zero ws out t reads (λ n q. not-refused (sym q ∙ lost))
 
 -- "Generating and sizing now refuse such a table": sizing as generating into 16,384 words is
-module _ (ws : List ℕ) (t : Table) (reads : readTable ws ≡ result t) (f : fits (tree (t .entries) (t .width)) 16384 ≡ true)
-    (clear : (w : ℕ) → w < 2 ^ (t .width) → Contested (t .entries) w → ⊥) (e : ℕ) where
-  pub sized-lowest : (measureOf (readTable ws) ≡ refused 19 e 0) ↔ Lowest (t .entries) (t .width) e
-  sized-lowest =
-      let sizes = refused-alike ws 19 e 0 in
-      let makes = lowest-refused ws t reads 16384 f clear e in
-      (λ q. makes .0 (sizes .0 q), λ l. sizes .1 (makes .1 l))
+module _ (ws : List ℕ) (t : Table) (reads : readTable ws ≡ result t) where
+  module _ (f : fits (tree (t .entries) (t .width)) 16384 ≡ true) (clear : (w : ℕ) → w < 2 ^ (t .width) → Contested (t .entries) w → ⊥) where
+    pub sized-lowest : (e : ℕ) → (measureOf (readTable ws) ≡ refused 19 e 0) ↔ Lowest (t .entries) (t .width) e
+    sized-lowest e =
+        let sizes = refused-alike ws 19 e 0 in
+        let makes = lowest-refused ws t reads 16384 f clear e in
+        (λ q. makes .0 (sizes .0 q), λ l. sizes .1 (makes .1 l))
+
+    pub sized-some : ((e : ℕ) × (measureOf (readTable ws) ≡ refused 19 e 0)) ↔ ((e : ℕ) × (e < length (t .entries)) × (Reached (t .entries) (t .width) e → ⊥))
+    sized-some =
+        let makes = some-refused ws t reads 16384 f clear in (
+          λ r. makes .0 (r .0, refused-alike ws 19 (r .0) 0 .0 (r .1)),
+          λ r. let m = makes .1 r in (m .0, refused-alike ws 19 (m .0) 0 .1 (m .1)),
+        )
+
+  -- "after 6", which is after 5
+  pub sized-after : (e : ℕ) → measureOf (readTable ws) ≡ refused 19 e 0
+      → (fits (tree (t .entries) (t .width)) 16384 ≡ true) × ((w : ℕ) → Contested (t .entries) w → ⊥)
+  sized-after e lost = after-six ws t reads 16384 e (refused-alike ws 19 e 0 .0 lost)

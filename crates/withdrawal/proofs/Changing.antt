@@ -1,6 +1,6 @@
 -- Document 02, No. 13, sentence by sentence, over the definitions that the calls' contracts cite. Assumes nothing.
 --   `withdrawal::count_changed` answers `changedOf (readTable ws) k list`; lookup answers `lookOf (readTable ws) w`.
---     lacks-one     what the table is that lacks a single entry
+--     lacks-one, lacking-words     what the table is that lacks a single entry; every table that reads has words for it
 --     same-entry, same-nothing     what a withdrawal leaves as it was
 --     ambiguous-changes, renumbering-not     what counts as a change
 --     changes-exactly, bound     which words change
@@ -21,16 +21,19 @@ use Rattle.words.specs.Words.{word}
 use Rattle.words.specs.Outcome.{Outcome, result, faulty, refused}
 use Rattle.words.proofs.Logic.{cases, clash, isTrue, or-l, not-f}
 use Rattle.words.proofs.Outcomes.{not-refused, not-faulty, refused-not-faulty, other-number}
-use Rattle.table.specs.Table.{Entry, Table, entryNumber}
+use Rattle.table.specs.Table.{Entry, Table, entryNumber, kindOf}
 use Rattle.table.specs.Check.{readTable}
 use Rattle.choice.specs.Rule.{names, ambiguous, selects, movedChoice}
 use Rattle.choice.proofs.Judging.{selects-names, names-selects}
+use Rattle.layout.specs.Layout.{tableWords}
+use Rattle.layout.specs.Readable.{Small, Means}
+use Rattle.layout.proofs.Drawing.{drawn-words}
 use Rattle.selection.specs.Selection.{select}
 use Rattle.selection.specs.Lookup.{lookedUp, lookOf}
 use Rattle.selection.proofs.Formula.{Contested, ambiguous-exactly}
 use Rattle.withdrawal.specs.Withdrawn.{without, lowered, formerly, renumbered, changes}
 use Rattle.withdrawal.specs.Counted.{unfit, countedIn, changedOf}
-use Rattle.withdrawal.proofs.Withdrawing.{formerly-lowered, length-without, each-other, others-stay, unchanged, changes-selects}
+use Rattle.withdrawal.proofs.Withdrawing.{formerly-lowered, length-without, within, each-other, others-stay, unchanged, changes-selects}
 use Rattle.withdrawal.proofs.Counting.{Tells, tells, fit-clear}
 use Rattle.withdrawal.proofs.Unfit.{Fit, FirstUnfit, all-fit, at-first, three, no-fault, six-or-seven}
 
@@ -40,6 +43,11 @@ use Rattle.withdrawal.proofs.Unfit.{Fit, FirstUnfit, all-fit, at-first,
 pub lacks-one : (es : List Entry) (k : ℕ) → k < length es → (length (without k es) + 1 ≡ length es)
     × ((i : ℕ) → i < length es → (i ≡ k → ⊥) → (lowered k i < length (without k es)) × (entryNumber (without k es) (lowered k i) ≡ entryNumber es i))
 lacks-one es k h = (length-without es k h, each-other es k h)
+
+-- a table that reads has words of 32 bits, of its kind, that read as the table that lacks entry k
+pub lacking-words : (ws : List ℕ) (t : Table) → readTable ws ≡ result t → Small ws → (k : ℕ) → k < length (t .entries)
+    → Means (kindOf (word ws 0)) (t .width) (without k (t .entries)) (tableWords (kindOf (word ws 0)) (t .width) (without k (t .entries)))
+lacking-words ws t reads s k h = drawn-words ws t reads s (without k (t .entries)) (formerly k) (within (t .entries) k h)
 
 -- "Compare an unambiguous table with the one that lacks a single entry": two tables that read, and what lookup answers
 module _ (ws vs : List ℕ) (t u : Table) (reads : readTable ws ≡ result t) (lacking : readTable vs ≡ result u) (k : ℕ) (h : k < length (t .entries))

@@ -3,6 +3,7 @@ pub mod Outcomes
 pub mod Lists
 pub mod Bits
 pub mod Parts
+pub mod Masks
 pub mod Bytes
 pub mod Filling
 pub mod Examples

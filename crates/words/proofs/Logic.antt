@@ -9,6 +9,7 @@ use mathlib.Core.Bool.{Bool, true, false, not, cond, true≢false, false≢true}
 use mathlib.Core.List.{List, [], _∷_}
 use mathlib.Core.Option.{Option, none, some}
 use lib.Dec.{leb, eqb}
+use lib.ListN.{length, getD}
 use borrow.Author.Tests.{leb-true, leb-false, eq-eqb, ne-eqb}
 use Rattle.words.specs.Tests.{_and_, _or_, allOf, anyOf, every, exists, howMany, first, best, orHere}
 
@@ -124,6 +125,19 @@ module _ {A : Type 0} where
   not-allOf g p [] e h = absurd (true≢false h)
   not-allOf g p (x ∷ xs) e h =
       cases (p x) (λ k. or-ir _ (not-allOf g p xs (and-r _ e) (and-e h k))) (λ k. or-il _ (and-i (and-l _ e) (not-it k)))
+
+-- the elements by their numbers
+module _ {A : Type 0} (d : A) (p : A → Bool) where
+  pub allOf-at : (l : List A) → allOf p l ≡ true → (i : ℕ) → i < length l → p (getD l i d) ≡ true
+  unfolding allOf
+  allOf-at [] e i h = absurd (not-suc-le-zero h)
+  allOf-at (x ∷ xs) e zero h = and-l _ e
+  allOf-at (x ∷ xs) e (suc i) h = allOf-at xs (and-r _ e) i (le-of-suc-le-suc h)
+
+  pub allOf-make : (l : List A) → ((i : ℕ) → i < length l → p (getD l i d) ≡ true) → allOf p l ≡ true
+  unfolding allOf
+  allOf-make [] f = refl
+  allOf-make (x ∷ xs) f = and-i (f 0 (suc-le-suc zero-le)) (allOf-make xs (λ i h. f (suc i) (suc-le-suc h)))
 
 -- ---- the numbers below a bound
 

@@ -1,0 +1,13 @@
+pub mod Standing
+pub mod Heads
+pub mod Laying
+pub mod Rereading
+pub mod OneToOne
+pub mod Fitting
+pub mod Lengths
+pub mod Changing
+pub mod Drawing
+pub mod Placing
+pub mod Covering
+pub mod Lawfully
+pub mod Examples

@@ -1,0 +1,3 @@
+pub mod Layout
+pub mod Readable
+pub mod Rules
