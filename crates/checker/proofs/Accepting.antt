@@ -289,7 +289,7 @@ module _ (es : List Entry) (width : ℕ) (ws : List ℕ) where
         (agrees-fresh es width held-tree start (a .right) (a .sound) w .once)
         (le-trans (agrees-short es width held-tree start (a .right) (a .sound) w) (howMany-le (λ i. not (bit 0 i)) width))
 
--- the call says yes of what the rule accepts
+-- what the call says yes of, the rule accepts
 pub check-accepts : (t : Table) (words : List ℕ) → checkOf (result t) words ≡ result tt → accepts (t .entries) (t .width) words ≡ true
 unfolding checkOf
 check-accepts t words e = cases (accepts (t .entries) (t .width) words) (λ y. y) (λ n. absurd (not-refused (sym (rw n at e))))

@@ -3,7 +3,7 @@
 --     StepOne, StepTwo     what steps 1 and 2 ask in a cell
 --     Clauses     the rule, in the paper's order
 --     accepts-exactly     the rule says yes exactly when the clauses hold
---     yes-exactly, no-exactly     so it is with the call, on a table that reads
+--     faulty-first, yes-exactly, no-exactly     so it is with the call, on a table that reads
 use Prim.Native.Nat.{ℕ, zero, suc, _+_, _≤_, _<_}
 use native.Mathlib.Nat.{le-refl}
 use native.Mathlib.Omega.{arith}
@@ -16,9 +16,9 @@ use lib.ListN.{length}
 use borrow.Author.Tests.{eq-eqb, eqb-true, eqb-false, ltb-true, ltb-false}
 use Rattle.words.specs.Tests.{_and_, first}
 use Rattle.words.specs.Words.{word, bit}
-use Rattle.words.specs.Outcome.{result, refused}
+use Rattle.words.specs.Outcome.{Outcome, result, faulty, refused}
 use Rattle.words.proofs.Logic.{cases, clash, isFalse, and-i, and-l, and-r, exists-none, exists-no, first-some, first-only, first-no}
-use Rattle.words.proofs.Outcomes.{not-refused}
+use Rattle.words.proofs.Outcomes.{not-refused, not-faulty, refused-not-faulty, faults-passed}
 use Rattle.table.specs.Table.{Entry, Table, entryNumber}
 use Rattle.table.specs.Check.{readTable}
 use Rattle.choice.specs.Rule.{names, nothing, ambiguous, moreSpecific, beats, judge, judgeAt}
@@ -349,6 +349,14 @@ module _ (es : List Entry) (width : ℕ) (ws : List ℕ) where
 
   pub accepts-exactly : (accepts es width ws ≡ true) ↔ Clauses es width ws
   accepts-exactly = (accept-clauses, clauses-accept es width ws)
+
+-- "After 1–4": a table's fault exactly where reading has it
+pub faulty-first : (ws words : List ℕ) (n p : ℕ) → (checkOf (readTable ws) words ≡ faulty n p) ↔ (readTable ws ≡ faulty n p)
+unfolding checkOf
+faulty-first ws words n p =
+    faults-passed (λ (o : Outcome Table). checkOf o words) (λ a b. refl) (λ a b x. refl)
+    (λ t a b q. cases (accepts (t .entries) (t .width) words) (λ y. not-faulty (rw y at q)) (λ y. refused-not-faulty (rw y at q)))
+    (readTable ws) n p
 
 -- "After 1–4 it says yes exactly when .. otherwise its answer is 14": the call, on a table that reads
 module _ (ws words : List ℕ) (t : Table) (reads : readTable ws ≡ result t) where

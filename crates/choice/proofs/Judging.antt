@@ -1,4 +1,4 @@
--- The rule: two entries do not beat each other; fewer that pass are judged the same; who is named, and what it depends on. Assumes nothing.
+-- The rule: what more specific is, bit by bit; two entries do not beat each other; fewer that pass are judged the same; who is named, and what it depends on. Assumes nothing.
 use Prim.Native.Nat.{ℕ, _<_}
 use native.Mathlib.Omega.{arith}
 use mathlib.Core.Path.{_≡_, refl, sym, ap, ap₂, _∙_}
@@ -6,24 +6,54 @@ use mathlib.Core.Bool.{Bool, true, false, not}
 use mathlib.Core.List.{List}
 use mathlib.Core.Logic.{_↔_}
 use mathlib.Core.Option.{Option, none, some}
-use lib.Bits.{bitAnd, and-comm}
+use lib.Bits.{and-comm}
 use lib.Dec.{eqb}
 use lib.ListN.{length}
 use borrow.Author.Tests.{eqb-true, eqb-false, eq-eqb, ne-eqb}
 use Rattle.words.specs.Tests.{_and_, _or_, exists, first}
-use Rattle.words.proofs.Bits.{includes-true}
+use Rattle.words.specs.Words.{bit, includes}
+use Rattle.words.proofs.Bits.{includes-true, missing}
+use Rattle.words.proofs.Masks.{lt-two-pow, includes-exactly, under-exactly}
 use Rattle.table.specs.Table.{Entry, entryNumber}
-use Rattle.choice.specs.Rule.{Choice, names, nothing, ambiguous, selects, isNothing, isAmbiguous, sameChoice, choiceOf, moreSpecific, givesWay, beatsAt, judgeAt, beats, judge}
+use Rattle.choice.specs.Rule.{Choice, names, nothing, ambiguous, selects, isNothing, isAmbiguous, sameChoice, choiceOf, matches, moreSpecific, givesWay, beatsAt, judgeAt, beats, judge}
 use Rattle.words.proofs.Logic.{cases, clash, isFalse, and-l, and-r, and-i, or-il, or-ir, or-i, or-e, not-t, not-it, not-if, every-at, every-make, every-same, exists-none, exists-no, exists-same, first-some, first-no, first-only, first-same}
+
+-- "e's opcode mask holds every bit of f's and at least one more, and the values agree on f's mask", bit by bit
+pub record More (e f : Entry) : Type 0 where
+  pub every : (i : ℕ) → bit (f .opcode .mask) i ≡ true → bit (e .opcode .mask) i ≡ true
+  pub one-more : (i : ℕ) × (bit (e .opcode .mask) i ≡ true) × (bit (f .opcode .mask) i ≡ false)
+  pub agree : (i : ℕ) → bit (f .opcode .mask) i ≡ true → bit (e .opcode .value) i ≡ bit (f .opcode .value) i
+
+-- masks that include each other are the same
+same-mask : (a b : ℕ) → includes a b ≡ true → includes b a ≡ true → a ≡ b
+same-mask a b h k = sym (includes-true b a k) ∙ and-comm b a ∙ includes-true a b h
+
+-- the test says so, of entries whose "value has no bit outside its mask"
+pub more-exactly : (e f : Entry) → includes (f .opcode .mask) (f .opcode .value) ≡ true → (moreSpecific e f ≡ true) ↔ More e f
+unfolding moreSpecific matches
+more-exactly e f own = (
+  λ h.
+      let holds : includes (e .opcode .mask) (f .opcode .mask) ≡ true = and-l _ (and-l _ h) in
+      let differ : eqb (e .opcode .mask) (f .opcode .mask) ≡ false = not-t (and-r _ (and-l _ h)) in
+      let lacks : includes (f .opcode .mask) (e .opcode .mask) ≡ false = isFalse (λ k. eqb-false _ _ differ (same-mask _ _ holds k)) in
+      let (i, l, there, here) = missing (e .opcode .mask) (f .opcode .mask) (e .opcode .mask) (lt-two-pow (e .opcode .mask)) lacks in
+      record {
+        every = includes-exactly (e .opcode .mask) (f .opcode .mask) .0 holds;
+        one-more = (i, there, here);
+        agree = under-exactly (e .opcode .value) (f .opcode .mask) (f .opcode .value) own .0 (eqb-true _ _ (and-r _ h));
+      },
+  λ m.
+      let (i, there, here) = m .one-more in
+      and-i (and-i (includes-exactly (e .opcode .mask) (f .opcode .mask) .1 (m .every)) (not-it (ne-eqb _ _ (λ q. clash there (ap (λ (x : ℕ). bit x i) q ∙ here)))))
+      (eq-eqb _ _ (under-exactly (e .opcode .value) (f .opcode .mask) (f .opcode .value) own .1 (m .agree))),
+)
 
 -- two entries are not each more specific than the other
 pub not-mutual : (e f : Entry) → moreSpecific e f ≡ true → moreSpecific f e ≡ true → ⊥
 unfolding moreSpecific
 not-mutual e f h k =
-    let a : bitAnd (e .opcode .mask) (f .opcode .mask) ≡ f .opcode .mask = includes-true _ _ (and-l _ (and-l _ h)) in
-    let b : bitAnd (f .opcode .mask) (e .opcode .mask) ≡ e .opcode .mask = includes-true _ _ (and-l _ (and-l _ k)) in
-    let c : eqb (e .opcode .mask) (f .opcode .mask) ≡ false = not-t (and-r _ (and-l _ h)) in
-    eqb-false _ _ c (sym b ∙ and-comm (f .opcode .mask) (e .opcode .mask) ∙ a)
+    let differ : eqb (e .opcode .mask) (f .opcode .mask) ≡ false = not-t (and-r _ (and-l _ h)) in
+    eqb-false _ _ differ (same-mask _ _ (and-l _ (and-l _ h)) (and-l _ (and-l _ k)))
 
 -- by cases on a choice
 pub answers {ℓ} : {G : Type ℓ} (a : Choice) → ((i : ℕ) → a ≡ names i → G) → (a ≡ nothing → G) → (a ≡ ambiguous → G) → G

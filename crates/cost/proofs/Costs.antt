@@ -6,7 +6,7 @@
 --     no-such-entry, faulty-first     what is refused
 --     other-cycles, twin-alike     words that differ in cycles only
 --     lookup-alike, generate-alike, buffer-alike, measure-alike, decode-alike, encode-alike     what does not depend on cycles
-use mathlib.Core.Path.{_≡_, sym, ap, _∙_, subst}
+use mathlib.Core.Path.{_≡_, refl, sym, ap, _∙_, subst}
 use mathlib.Core.List.{List}
 use mathlib.Core.Logic.{_↔_, _⊎_, inl, inr}
 use Prim.Native.Nat.{ℕ, _+_, _≤_, _<_}
@@ -17,6 +17,7 @@ use borrow.Author.Tests.{lt-ltb, le-ltb, ltb-false, le-leb, lt-leb, eqb-true}
 use Rattle.words.specs.Words.{word}
 use Rattle.words.specs.Outcome.{Outcome, result, faulty, refused}
 use Rattle.words.proofs.Logic.{cases, or-e}
+use Rattle.words.proofs.Outcomes.{not-faulty, refused-not-faulty, faults-passed}
 use Rattle.table.specs.Table.{Field, Table, kindOf, hasCycles, opcodePlace, cyclesAt, entryPlace, countOf, widthOf, sizeOf, ownBits}
 use Rattle.table.specs.Check.{fine, fault, firstCheck, headCheck, patternCheck, cyclesCheck, entryCheck, tableCheck, readTable}
 use Rattle.table.proofs.Laws.{checks, fine-then, fault-then, then-l, then-r, need-true, length-entries}
@@ -108,15 +109,12 @@ module _ (ws : List ℕ) (first : firstCheck ws ≡ fine) (six : kindOf (word ws
         stops 2 (length ws) (rw six (simp (lt-leb _ _ g, checks)))
 
 -- "after the table's faults"
-faulty-of : (o : Outcome Table) (e n p : ℕ) → (cyclesOf o e ≡ faulty n p) ↔ (o ≡ faulty n p)
-unfolding cyclesOf
-faulty-of (faulty a b) e n p = (λ h. cc, λ h. cc)
-faulty-of (refused a b w) e n p = (λ h. absurd (let z : _≡_ {A = ℕ} 0 1 = cc in omega arith), λ h. absurd (let z : _≡_ {A = ℕ} 0 1 = cc in omega arith))
-faulty-of (result t) e n p =
-    (λ h. absurd (cases (ltb e (length (t .entries))) (λ l. let q = rw l at h in let z : _≡_ {A = ℕ} 0 1 = cc in omega arith) (λ l. let q = rw l at h in let z : _≡_ {A = ℕ} 0 1 = cc in omega arith)), λ h. absurd (let z : _≡_ {A = ℕ} 0 1 = cc in omega arith))
-
 pub faulty-first : (ws : List ℕ) (e n p : ℕ) → (cyclesOf (readTable ws) e ≡ faulty n p) ↔ (readTable ws ≡ faulty n p)
-faulty-first ws e n p = faulty-of (readTable ws) e n p
+unfolding cyclesOf
+faulty-first ws e n p =
+    faults-passed (λ (o : Outcome Table). cyclesOf o e) (λ a b. refl) (λ a b x. refl)
+    (λ t a b q. cases (ltb e (length (t .entries))) (λ l. not-faulty (rw l at q)) (λ l. refused-not-faulty (rw l at q)))
+    (readTable ws) n p
 
 -- "differ in cycles only", of words: those of a kind 6 table, and others that differ in the cycles words only, each at most 65,535; those of a kind 1
 -- table, and its twin of kind 6. Both read, and the tables that they say are the same but for their cycles

@@ -5,7 +5,7 @@ use mathlib.Core.Bool.{not}
 use mathlib.Core.List.{List, [], _∷_, map}
 use mathlib.Core.Option.{Option, none, some}
 use Prim.Native.Nat.{ℕ, zero, suc, _^_}
-use lib.ListN.{length}
+use lib.ListN.{length, length-map}
 use Rattle.words.specs.Tests.{exists, first}
 use Rattle.words.specs.Outcome.{Outcome, result, faulty, refused}
 use Rattle.table.specs.Table.{Entry, Field, Table, entryNumber}
@@ -54,8 +54,7 @@ module _ (cycles : ℕ → ℕ) (fields : List Field → List Field) (keep : Kep
   -- ---- the entries by their numbers
 
   same-length : (es : List Entry) → length (map change es) ≡ length es
-  same-length [] = refl
-  same-length (e ∷ es) = ap suc (same-length es)
+  same-length es = length-map es change
 
   same-entry : (es : List Entry) (i : ℕ) → entryNumber (map change es) i ≡ change (entryNumber es i)
   unfolding changed

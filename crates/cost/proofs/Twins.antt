@@ -6,37 +6,27 @@ use mathlib.Core.Bool.{true}
 use mathlib.Core.List.{List, [], _∷_, _++_, map}
 use lib.ListN.{length}
 use lib.Seq.{slice}
-use borrow.Author.Tests.{le-leb}
 use Rattle.words.specs.Tests.{_or_, allOf}
 use Rattle.words.specs.Words.{word}
 use Rattle.words.specs.Outcome.{result}
-use Rattle.words.proofs.Logic.{and-l, and-r, and-i}
+use Rattle.words.proofs.Logic.{and-i}
 use Rattle.table.specs.Table.{Entry, Table, kindOf, countOf, widthOf, cyclesPlace, entryPlace, entryAt, entriesAt, tableOf}
 use Rattle.table.specs.Check.{fine, entryCheck, entriesCheck, firstCheck, tableCheck, readTable}
 use Rattle.table.proofs.Laws.{then-l, then-r, first-some, first-short, first-count, first-wide, first-width}
 use Rattle.layout.specs.Layout.{allWords, patternWords, entryHead, cyclesWords, entryWords, entriesWords, tableHead, tableWords}
-use Rattle.layout.specs.Readable.{goodKind, Readable, lawfulHead, lawfulCycles, lawful, Small}
+use Rattle.layout.specs.Readable.{goodKind, Readable, lawful, Small}
 use Rattle.layout.proofs.Standing.{Stands, done, next, here, joined, ends-at, slice-is}
 use Rattle.layout.proofs.Laying.{entry-laid, first-laid}
+use Rattle.layout.proofs.Changing.{withCycles, recosted-lawful}
 use Rattle.layout.proofs.OneToOne.{reads-back}
 use Rattle.layout.proofs.Rereading.{table-back}
 use Rattle.layout.proofs.Placing.{last-place}
 use Rattle.cost.specs.Recosted.{uncosted, bare, OtherCycles, twinFrom, twin}
 
--- an entry with other cycles; those of a table from entry k on
-unfoldable withCycles : ℕ → Entry → Entry
-withCycles c e = record { label = e .label; size = e .size; opcode = e .opcode; cycles = c; fields = e .fields; conditions = e .conditions }
-
+-- the entries of a table from entry k on, with other cycles
 unfoldable recosted : (ℕ → ℕ) → List ℕ → ℕ → ℕ → List Entry
 recosted cycles ws zero k = []
 recosted cycles ws (suc n) k = withCycles (cycles k) (entryAt ws (entryPlace ws k)) ∷ recosted cycles ws n (suc k)
-
-still-lawful : (kind width c : ℕ) (e : Entry) → c ≤ 65535 → lawful kind width e ≡ true → lawful 6 width (withCycles c e) ≡ true
-unfolding lawful lawfulHead lawfulCycles withCycles
-still-lawful kind width c e h l =
-    let t = and-r _ l in
-    let u = and-r _ t in
-    and-i (and-l _ l) (and-i (and-l _ t) (and-i (le-leb c 65535 h) (and-r _ u)))
 
 module _ (cycles : ℕ → ℕ) (ws : List ℕ) (width : ℕ) where
   recosted-length : (n k : ℕ) → length (recosted cycles ws n k) ≡ n
@@ -50,12 +40,12 @@ module _ (cycles : ℕ → ℕ) (ws : List ℕ) (width : ℕ) where
   recosted-bare zero k = refl
   recosted-bare (suc n) k = ap (λ (l : List Entry). uncosted (entryAt ws (entryPlace ws k)) ∷ l) (recosted-bare n (suc k))
 
-  recosted-lawful : (n k : ℕ) → ((j : ℕ) → j < k + n → cycles j ≤ 65535) → entriesCheck ws width n (entryPlace ws k) ≡ fine → allOf (lawful 6 width) (recosted cycles ws n k) ≡ true
+  all-lawful : (n k : ℕ) → ((j : ℕ) → j < k + n → cycles j ≤ 65535) → entriesCheck ws width n (entryPlace ws k) ≡ fine → allOf (lawful 6 width) (recosted cycles ws n k) ≡ true
   unfolding recosted entriesCheck entryPlace allOf
-  recosted-lawful zero k few e = refl
-  recosted-lawful (suc n) k few e =
-      and-i (still-lawful (kindOf (word ws 0)) width (cycles k) (entryAt ws (entryPlace ws k)) (few k (omega arith)) (entry-laid ws width (entryPlace ws k) (then-l _ _ e) .passes))
-      (recosted-lawful n (suc k) (λ j h. few j (omega arith)) (then-r _ _ e))
+  all-lawful zero k few e = refl
+  all-lawful (suc n) k few e =
+      and-i (recosted-lawful (kindOf (word ws 0)) width (cycles k) (entryAt ws (entryPlace ws k)) (few k (omega arith)) (entry-laid ws width (entryPlace ws k) (then-l _ _ e) .passes))
+      (all-lawful n (suc k) (λ j h. few j (omega arith)) (then-r _ _ e))
 
 -- ---- a table that reads
 
@@ -83,7 +73,7 @@ module _ (ws : List ℕ) (s : Small ws) (e : tableCheck ws ≡ fine) (cycles : �
         wide = first-width ws first;
         few = omega (arith, first-count ws first, recosted-length cycles ws (widthOf (word ws 0)) n 0);
         short = short;
-        each = recosted-lawful cycles ws (widthOf (word ws 0)) n 0 (λ j h. few j (omega arith)) rest;
+        each = all-lawful cycles ws (widthOf (word ws 0)) n 0 (λ j h. few j (omega arith)) rest;
       }
 
   alike : bare (record { width = widthOf (word ws 0); entries = es }) ≡ bare (tableOf ws)

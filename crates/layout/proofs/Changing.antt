@@ -1,5 +1,6 @@
--- Readable entries, changed: two lists in a row, and a kind 1 list as kind 6. Assumes nothing.
+-- Readable entries, changed: two lists in a row, an entry with other cycles, and a kind 1 list as kind 6. Assumes nothing.
 --     append-readable, append-means     the first table's entries, then the second's
+--     withCycles, recosted-lawful     an entry with other cycles
 --     costed-words, costed-lawful, costed-readable     a kind 1 table as kind 6
 use mathlib.Core.Path.{_≡_, refl}
 use mathlib.Core.Bool.{Bool, true}
@@ -12,7 +13,7 @@ use Rattle.words.specs.Tests.{allOf, _or_}
 use Rattle.words.proofs.Logic.{and-l, and-r, and-i, allOf-map}
 use Rattle.table.specs.Table.{Entry}
 use Rattle.layout.specs.Layout.{cyclesWords, patternWords, entryWords, tableWords}
-use Rattle.layout.specs.Readable.{lawfulCycles, goodKind, lawful, Readable, Means}
+use Rattle.layout.specs.Readable.{lawfulHead, lawfulCycles, goodKind, lawful, Readable, Means}
 use Rattle.layout.proofs.OneToOne.{means}
 use Rattle.layout.proofs.Lengths.{costed-length}
 
@@ -41,6 +42,18 @@ module _ (kind width : ℕ) where
       → Means kind width (es ++ fs) (tableWords kind width (es ++ fs))
   append-means es fs r t few short = means (append-readable es fs r t few short)
 
+-- ---- an entry with other cycles, in a table that has them
+
+unfoldable pub withCycles : ℕ → Entry → Entry
+withCycles c e = record { label = e .label; size = e .size; opcode = e .opcode; cycles = c; fields = e .fields; conditions = e .conditions }
+
+pub recosted-lawful : (kind width c : ℕ) (e : Entry) → c ≤ 65535 → lawful kind width e ≡ true → lawful 6 width (withCycles c e) ≡ true
+unfolding lawful lawfulHead lawfulCycles withCycles
+recosted-lawful kind width c e h l =
+    let t = and-r _ l in
+    let u = and-r _ t in
+    and-i (and-l _ l) (and-i (and-l _ t) (and-i (le-leb c 65535 h) (and-r _ u)))
+
 -- ---- a kind 1 list as kind 6: a word more for each entry, its cycles, which are 0
 
 pub costed-words : (e : Entry) → entryWords 6 e ≡ take 3 (entryWords 1 e) ++ (e .cycles ∷ drop 3 (entryWords 1 e))
@@ -48,12 +61,10 @@ unfolding entryWords patternWords cyclesWords
 costed-words e = refl
 
 pub costed-lawful : (width : ℕ) (e : Entry) → lawful 1 width e ≡ true → lawful 6 width e ≡ true
-unfolding lawful lawfulCycles
+unfolding lawful lawfulCycles withCycles
 costed-lawful width e l =
-    let t = and-r _ l in
-    let u = and-r _ t in
-    let z : e .cycles ≡ 0 = eqb-true _ _ (and-l _ u) in
-    and-i (and-l _ l) (and-i (and-l _ t) (and-i (le-leb (e .cycles) 65535 (omega arith)) (and-r _ u)))
+    let z : e .cycles ≡ 0 = eqb-true _ _ (and-l _ (and-r _ (and-r _ l))) in
+    recosted-lawful 1 width (e .cycles) e (omega arith) l
 
 pub costed-readable : (width : ℕ) (es : List Entry) → Readable 1 width es → length (tableWords 1 width es) + length es ≤ 16384 → Readable 6 width es
 unfolding goodKind _or_

@@ -45,7 +45,7 @@ low-cut w = part-join w 0 4 4
 pub low-parts : (w a b : ℕ) → b < 16 → bits 7 0 w ≡ a * 2 ^ 4 + b → (bits 7 4 w ≡ a) × (bits 3 0 w ≡ b)
 low-parts w a b h e = omega (arith, low-cut w, part-lt w 0 4)
 
--- ---- kind, bits 27–4, 3–0: a condition, an unmatching pattern
+-- ---- kind, bits 27–4, 3–0: a condition
 pub count-cut : (w : ℕ) → w < 2 ^ 32 → w ≡ kindOf w * 2 ^ 28 + bits 27 4 w * 2 ^ 4 + bits 3 0 w
 count-cut w h = omega (arith, part-whole w h, part-join w 0 28 4, part-join w 0 4 24)
 

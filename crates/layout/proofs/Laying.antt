@@ -1,5 +1,5 @@
 -- A table without fault: its entries are lawful, and its words are theirs. Assumes nothing.
-use mathlib.Core.Path.{_≡_, refl, ap}
+use mathlib.Core.Path.{_≡_, refl}
 use mathlib.Core.Bool.{Bool, true}
 use mathlib.Core.List.{List, [], _∷_, _++_}
 use Prim.Native.Nat.{ℕ, zero, suc, _+_, _*_, _≤_}
@@ -13,7 +13,7 @@ use Rattle.words.proofs.Logic.{and-i, cases}
 use Rattle.words.proofs.Parts.{part-lt}
 use Rattle.table.specs.Table.{kindOf, countOf, widthOf, fieldsOf, conditionsOf, unmatchingOf, fieldBits, patternAt, fieldAt, fieldsAt, unmatchingAt, conditionAt, conditionEnd, conditionsAt, conditionsEnd, opcodePlace, fieldsPlace, conditionsPlace, cyclesPlace, cyclesAt, hasCycles, entryEnd, entryAt, entriesAt}
 use Rattle.table.specs.Check.{Check, fine, _then_, need, patternCheck, unmatchingCheck, unmatchingsCheck, conditionCheck, conditionsCheck, spareClear, formFits, fieldWord, cyclesCheck, fieldRule, fieldCheck, fieldsCheck, headCheck, entryCheck, entriesCheck, firstCheck}
-use Rattle.table.proofs.Laws.{then-l, then-r, need-true}
+use Rattle.table.proofs.Laws.{then-l, then-r, need-true, length-fields, length-unmatching, length-conditions}
 use Rattle.layout.specs.Layout.{allWords, patternWords, fieldHead, fieldsWords, unmatchedWords, unmatchingWords, conditionHead, conditionWords, conditionsWords, entryHead, entryWords, entriesWords, tableHead, cyclesWords}
 use Rattle.layout.specs.Readable.{lawfulPattern, lawfulCondition, lawfulForm, lawfulCycles, lawfulField, lawfulFields, lawfulHead, lawful, Small}
 use Rattle.layout.proofs.Standing.{Stands, done, next, joined}
@@ -41,22 +41,6 @@ module _ {ws : List ℕ} where
 
   ended : {p q : ℕ} {b : Bool} → b ≡ true → p ≡ q → Laid ws p q b []
   ended t e = record { passes = t; stands = λ h. done e }
-
-module _ (ws : List ℕ) where
-  pub length-unmatching : (n p : ℕ) → length (unmatchingAt ws n p) ≡ n
-  unfolding unmatchingAt
-  length-unmatching zero p = refl
-  length-unmatching (suc n) p = ap suc (length-unmatching n (p + 3))
-
-  pub length-conditions : (n p : ℕ) → length (conditionsAt ws n p) ≡ n
-  unfolding conditionsAt
-  length-conditions zero p = refl
-  length-conditions (suc n) p = ap suc (length-conditions n (conditionEnd ws p))
-
-  pub length-fields : (n p : ℕ) → length (fieldsAt ws n p) ≡ n
-  unfolding fieldsAt
-  length-fields zero p = refl
-  length-fields (suc n) p = ap suc (length-fields n (p + 1))
 
 module _ (ws : List ℕ) (own : ℕ) where
   pattern-laid : (p q : ℕ) → p + 2 ≡ q → patternCheck ws own p ≡ fine → Laid ws p q (lawfulPattern own (patternAt ws p)) (patternWords (patternAt ws p))

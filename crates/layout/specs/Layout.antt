@@ -30,7 +30,7 @@ unmatchedWords p = 5 * 2 ^ 28 ∷ patternWords p
 abbrev pub unmatchingWords : List Pattern → List ℕ
 unmatchingWords ps = allWords unmatchedWords ps
 
--- "Kind 4, exclusion condition: bits 3–0 number of unmatching patterns"
+-- "Kind 4, exclusion condition: bits 3–0 number of unmatching patterns (0–8)"
 unfoldable pub conditionHead : Condition → ℕ
 conditionHead k = 4 * 2 ^ 28 + length (k .unmatching)
 
@@ -41,7 +41,7 @@ conditionWords k = conditionHead k ∷ (patternWords (k .matching) ++ unmatching
 abbrev pub conditionsWords : List Condition → List ℕ
 conditionsWords ks = allWords conditionWords ks
 
--- "Kind 2, entry: bits 27–16 label, bits 15–8 length in bits, bits 7–4 fields, bits 3–0 conditions"
+-- "Kind 2, entry: bits 27–16 label, bits 15–8 length in bits (1 to width), bits 7–4 fields (0–8), bits 3–0 conditions (0–8)."
 unfoldable pub entryHead : Entry → ℕ
 entryHead e = 2 * 2 ^ 28 + e .label * 2 ^ 16 + e .size * 2 ^ 8 + length (e .fields) * 2 ^ 4 + length (e .conditions)
 
@@ -56,7 +56,7 @@ entryWords kind e = entryHead e ∷ (patternWords (e .opcode) ++ (cyclesWords ki
 abbrev pub entriesWords : ℕ → List Entry → List ℕ
 entriesWords kind es = allWords (entryWords kind) es
 
--- "Kind 1, first word: bits 27–16 number of entries, bits 7–0 width in bits"
+-- "Kind 1, first word: bits 27–16 number of entries (0–256), bits 7–0 width in bits (1–32)."
 unfoldable pub tableHead : ℕ → ℕ → ℕ → ℕ
 tableHead kind width count = kind * 2 ^ 28 + count * 2 ^ 16 + width
 

@@ -47,7 +47,7 @@ pub record FieldRule (width size : ℕ) (f : Field) : Type 0 where
   pub fraction : f .fraction ≤ 16
   pub within : f .fraction ≤ f .width
 
--- "Opcode mask and fields together cover each own bit once": each is in the mask or in a field, in not both, and in no second field
+-- "Opcode mask and fields together cover each own bit once": each is in the mask or in a field, not in both, and in no second field
 pub record CoverRule (width size mask : ℕ) (fs : List Field) : Type 0 where
   pub covered : (i : ℕ) → OwnBit width size i → (bit mask i ≡ true) ⊎ ((j : ℕ) × (j < length fs) × InField (fieldNumber fs j) i)
   pub off-mask : (i j : ℕ) → j < length fs → InField (fieldNumber fs j) i → bit mask i ≡ false

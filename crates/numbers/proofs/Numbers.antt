@@ -4,13 +4,13 @@
 --     spare-is-two, form-is-four, in-table     field words of a table
 --     fine-exactly, low-free, two-exactly, four-exactly, twelve-exactly, room-exactly, length-exactly     what the calls take and refuse
 --     signed-forms, signed-all, stored-all, signed-small, turned, stored-fits     stored values and whole numbers
---     text-says, minus-exactly, point-of-two, text-short, text-longest, written, unwritten     the text and its buffer
+--     text-all, text-says, minus-exactly, point-of-two, text-short, text-longest, written, unwritten     the text and its buffer
 --     decoded-signed, plain-words, lookup-plain, generate-plain, buffer-plain, measure-plain, decode-plain, encode-plain, comes-back     the other calls
 use Prim.Native.Nat.{ℕ, _+_, _^_, _≤_, _<_}
 use mathlib.Core.Bool.{true, false}
 use mathlib.Core.Path.{_≡_, refl, sym, ap, _∙_}
 use mathlib.Core.List.{List, _++_, map}
-use mathlib.Core.Logic.{_↔_, _⊎_, ⊎-elim, inl, inr}
+use mathlib.Core.Logic.{_↔_, Iff·trans, _⊎_, ⊎-elim, inl, inr}
 use mathlib.Core.Option.{some}
 use native.Mathlib.Omega.{arith}
 use lib.Dec.{eqb, ltb, leb}
@@ -34,7 +34,7 @@ use Rattle.selection.specs.Lookup.{lookOf}
 use Rattle.tree.specs.Generate.{generateOf, bufferOf, measureOf}
 use Rattle.operands.specs.Fields.{valueIn}
 use Rattle.operands.specs.Calls.{entry-values, decodeOf, encodeOf}
-use Rattle.operands.proofs.Inverse.{table-good, encode-decode}
+use Rattle.operands.proofs.Inverse.{table-good, encode-reads, encode-decode}
 use Rattle.cost.proofs.Free.{changedTable, lookup-same, generate-same, buffer-same, measure-same, decode-same, encode-same}
 use Rattle.numbers.specs.Word.{hasSign, wordCheck}
 use Rattle.numbers.specs.Whole.{isBelow, numberOf, inRange, valueOf}
@@ -47,7 +47,7 @@ use Rattle.numbers.proofs.Answering.{answer-result}
 use Rattle.numbers.proofs.Refusing.{SpareSet, FormFault, Two, Four, Taken, spare-set, form-fault, taken, two, four, twelve}
 use Rattle.numbers.proofs.Alike.{same-kind, same-form, same-fraction}
 use Rattle.numbers.proofs.Plainness.{kept-plain, plain-is, plain-means}
-use Rattle.numbers.proofs.Rooms.{after, passed-fault, passed, not-eighteen, too-long, long}
+use Rattle.numbers.proofs.Rooms.{passed-fault, passed, not-eighteen, too-long, long}
 use Rattle.numbers.proofs.Shortness.{plain-near, signed-near, whole-short, pointed-short}
 use Rattle.numbers.proofs.Ranges.{number-small}
 use Rattle.numbers.proofs.Turning.{value-back, number-back}
@@ -133,19 +133,19 @@ module _ (w v : ℕ) (z : ℤ) (room : ℕ) where
   -- "a wrong kind or spare bit gives 2"; of the call that writes text, for every room
   pub two-exactly : ((signedOf w v ≡ faulty 2 0) ↔ Two w) × ((storedOf w z ≡ faulty 2 0) ↔ Two w) × ((text-call ≡ faulty 2 0) ↔ Two w)
   unfolding signedOf storedOf textOf
-  two-exactly = (two w _ _, two w _ _, after (passed-fault _ room 2 0) (two w _ _))
+  two-exactly = (two w _ _, two w _ _, Iff·trans (passed-fault _ room 2 0) (two w _ _))
 
   -- "then a width outside 1–32 or a form fault as above 4"
   pub four-exactly : ((signedOf w v ≡ faulty 4 0) ↔ Four w) × ((storedOf w z ≡ faulty 4 0) ↔ Four w) × ((text-call ≡ faulty 4 0) ↔ Four w)
   unfolding signedOf storedOf textOf
-  four-exactly = (four w _ _, four w _ _, after (passed-fault _ room 4 0) (four w _ _))
+  four-exactly = (four w _ _, four w _ _, Iff·trans (passed-fault _ room 4 0) (four w _ _))
 
   -- "then a value out of range 12"
   pub twelve-exactly : ((signedOf w v ≡ refused 12 0 0) ↔ ((wordCheck w ≡ fine) × (2 ^ fieldWidth w ≤ v)))
       × ((storedOf w z ≡ refused 12 0 0) ↔ ((wordCheck w ≡ fine) × (inRange (hasSign w) (fieldWidth w) z ≡ false)))
       × ((text-call ≡ refused 12 0 0) ↔ ((wordCheck w ≡ fine) × (2 ^ fieldWidth w ≤ v)))
   unfolding signedOf storedOf textOf
-  twelve-exactly = (over _, twelve _ _ _, after (passed _ room 12 (λ q. omega arith)) (over _))
+  twelve-exactly = (over _, twelve _ _ _, Iff·trans (passed _ room 12 (λ q. omega arith)) (over _))
     where
       over : {A : Type 0} (r : A) → (answerOf (wordCheck w) (ltb v (2 ^ fieldWidth w)) r ≡ refused 12 0 0) ↔ ((wordCheck w ≡ fine) × (2 ^ fieldWidth w ≤ v))
       over r = let e = twelve (wordCheck w) (ltb v (2 ^ fieldWidth w)) r in
@@ -216,6 +216,11 @@ pub point-of-two : (w : ℕ) → wordCheck w ≡ fine → (formOf w ≡ 2 → �
 unfolding wordCheck fieldWord spareClear
 point-of-two w good h = eqb-true _ _ (or-e (need-true _ _ _ (then-l _ _ (then-r _ _ (then-l _ _ good)))) (ne-eqb (formOf w) 2 h))
 
+-- each value of the width has a text
+pub text-all : (w : ℕ) → wordCheck w ≡ fine → (v : ℕ) → v < 2 ^ fieldWidth w → textOf w v ≡ result (numberText (fractionOf w) (numberOf (hasSign w) (fieldWidth w) v))
+unfolding textOf answerOf
+text-all w good v h = rw (good, lt-ltb v (2 ^ fieldWidth w) h)
+
 module _ (w v : ℕ) (text : List ℕ) (e : textOf w v ≡ result text) where
   -- the text is exact, of the value's number, and no other text is: what is said of it fixes its bytes
   pub text-says : (z : ℤ) × (signedOf w v ≡ result z) × Exact (fractionOf w) z text × ((other : List ℕ) → Exact (fractionOf w) z other → other ≡ text)
@@ -248,7 +253,7 @@ module _ (w v : ℕ) (text : List ℕ) (e : textOf w v ≡ result text) where
       whole-short (fractionOf w) _ (point-of-two w good (λ q. omega arith)) (rw t (plain-near (fieldWidth w) v (width-most w good) h)))
       (λ t. rw t (pointed-short (fractionOf w) _ (fraction-few w good) (signed-near (fieldWidth w) v (width-some w good) (width-most w good) h))))
 
--- 32 bits with 16 fraction bits, of which only the highest is set: -32768.0000000000000000
+-- a value of 32 bits of which only the highest is set, with 16 fraction bits: -32768.0000000000000000
 pub text-longest : (text : List ℕ) × (textOf 0x32100020 0x80000000 ≡ result text) × (length text ≡ 23)
 unfolding part _and_ _or_ _then_ need spareClear formFits fieldWord wordCheck isBelow numberOf digitOf digitsOf decimalText divided signText pointText fractionText numberText answerOf textOf
 text-longest = (_, refl, refl)
@@ -276,7 +281,7 @@ pub plain-words : (ws : List ℕ) (t : Table) → readTable ws ≡ result t → 
     → Means (kindOf (word ws 0)) (t .width) (plainTable t .entries) (tableWords (kindOf (word ws 0)) (t .width) (plainTable t .entries))
 plain-words = plain-means
 
--- and of these two, as of any two tables that read and differ in forms only, every other call answers the same
+-- and of these two, as of any two tables that read and differ in forms only, lookup, generating, sizing, decoding and encoding answer the same
 module _ (ws vs : List ℕ) (t u : Table) (r : readTable ws ≡ result t) (s : readTable vs ≡ result u) (d : plainTable t ≡ plainTable u) where
   abbrev same : ℕ → ℕ
   same n = n
@@ -306,7 +311,7 @@ module _ (ws vs : List ℕ) (t u : Table) (r : readTable ws ≡ result t) (s : r
 
 -- "a signed number in range comes back as itself": numbers that are stored for the fields of an entry of a table that reads, encoded into an
 -- instruction, are decoded as the same stored values, and these turned back are the same numbers
-module _ (ws : List ℕ) (t : Table) (r : readTable ws ≡ result t) (k : ℕ) (zs : List ℤ) (vs : List ℕ) where
+module _ (ws : List ℕ) (k : ℕ) (zs : List ℤ) (vs : List ℕ) where
   abbrev form-at : ℕ → ℕ
   form-at j = word ws (fieldsPlace ws (entryPlace ws k) + j)
 
@@ -315,5 +320,5 @@ module _ (ws : List ℕ) (t : Table) (r : readTable ws ≡ result t) (k : ℕ) (
       → (decodeOf (readTable ws) w room ≡ result (entry-values k vs))
       × ((j : ℕ) → j < length vs → signedOf (form-at j) (getD vs j 0) ≡ result (getD zs j (pos 0)))
   comes-back stores w e room h =
-      let g = read-is ws t r .0 in
+      let g = encode-reads ws k vs w e in
       (rw g (encode-decode (tableOf ws) (table-good ws g) w room k vs h (rw g at e)), λ j l. turned (form-at j) _ _ .1 (stores j l))

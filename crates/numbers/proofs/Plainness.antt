@@ -1,5 +1,5 @@
 -- Plain fields take out, place and refuse as fields with forms do, and a table with plain fields has words. Assumes nothing.
-use Prim.Native.Nat.{ℕ, suc, _+_, _^_, zero-le}
+use Prim.Native.Nat.{ℕ, _+_, _^_, zero-le}
 use native.Mathlib.Omega.{arith}
 use mathlib.Core.Bool.{true, cond}
 use mathlib.Core.Path.{_≡_, refl, ap}
@@ -24,8 +24,7 @@ use Rattle.cost.proofs.Free.{Kept, changed, changedTable}
 use Rattle.numbers.specs.Plain.{plain, plainEntry, plainTable}
 
 count : (fs : List Field) → length (map plain fs) ≡ length fs
-count [] = refl
-count (f ∷ fs) = ap suc (count fs)
+count fs = length-map fs plain
 
 values : (fs : List Field) (w : ℕ) → valuesIn (map plain fs) w ≡ valuesIn fs w
 unfolding valuesIn plain

@@ -14,10 +14,6 @@ use Rattle.words.proofs.Outcomes.{not-refused, not-faulty, refused-not-faulty, 
 use Rattle.table.specs.Check.{Check, fine, fault}
 use Rattle.numbers.specs.Calls.{answerOf, lengthOf}
 
--- one exactly after another
-pub after : {A B C : Type 0} → A ↔ B → B ↔ C → A ↔ C
-after f g = (λ a. g .0 (f .0 a), λ c. f .1 (g .1 c))
-
 -- a text has room, or has none
 module _ (text : List ℕ) (room : ℕ) where
   pub roomy : length text ≤ room → lengthOf (result text) room ≡ result (length text)

@@ -2,7 +2,7 @@
 use mathlib.Core.Path.{_≡_, refl, sym, ap, _∙_}
 use mathlib.Core.List.{List, [], _∷_, _++_}
 use mathlib.Core.Option.{Option, none, some}
-use Prim.Native.Nat.{ℕ, zero, suc, _+_, _^_, _≤_, _<_}
+use Prim.Native.Nat.{ℕ, _^_, _≤_, _<_}
 use native.Mathlib.Nat.{zero-add}
 use native.Mathlib.Omega.{arith}
 use lib.Dec.{ltb}
@@ -14,7 +14,7 @@ use Rattle.words.proofs.Logic.{cases}
 use Rattle.words.specs.Outcome.{Outcome, result, faulty, refused}
 use Rattle.table.specs.Table.{Entry, Table, entryNumber, tableOf, entryAt, entryPlace, fieldsAt, fieldsPlace, fieldsOf, countOf, widthOf}
 use Rattle.table.specs.Check.{Check, fine, fault, tableCheck, entryCheck, reading, readTable}
-use Rattle.table.proofs.Laws.{then-r, length-entries}
+use Rattle.table.proofs.Laws.{then-r, length-entries, length-fields}
 use Rattle.table.proofs.Views.{entry-check, entry-at, entry-few-fields}
 use Rattle.choice.specs.Rule.{Choice, names, nothing, ambiguous}
 use Rattle.selection.specs.Selection.{select}
@@ -140,11 +140,6 @@ firsts-are : (vs rest : List ℕ) → firstWords (length vs) (vs ++ rest) ≡ vs
 unfolding firstWords
 firsts-are [] rest = refl
 firsts-are (v ∷ vs) rest = ap (λ (z : List ℕ). v ∷ z) (firsts-are vs rest)
-
-pub length-fields : (ws : List ℕ) (n p : ℕ) → length (fieldsAt ws n p) ≡ n
-unfolding fieldsAt
-length-fields ws zero p = refl
-length-fields ws (suc n) p = ap suc (length-fields ws n (p + 1))
 
 module _ (ws : List ℕ) (w e place : ℕ) (l : result (some e) ≡ lookOf (readTable ws) w) (q : place ≡ entryPlace ws e) where
   pub entry-stands : Stands ws e place

@@ -13,7 +13,7 @@ use Rattle.words.specs.Words.{word}
 use Rattle.words.specs.Outcome.{Outcome, result, faulty, refused}
 use Rattle.table.specs.Table.{Entry, Table, Field, entryNumber, tableOf, fieldsAt, fieldsPlace, fieldsOf, sizeOf, countOf, widthOf}
 use Rattle.table.specs.Check.{fine, tableCheck, fieldsCheck, readTable}
-use Rattle.table.proofs.Laws.{then-l, then-r, length-entries, first-width, field-some, field-below}
+use Rattle.table.proofs.Laws.{then-l, then-r, length-entries, length-fields, first-width, field-some, field-below}
 use Rattle.table.proofs.Views.{entry-field-check}
 use Rattle.choice.specs.Rule.{Choice, names, nothing, ambiguous, selects}
 use Rattle.selection.specs.Selection.{select}
@@ -23,7 +23,7 @@ use Rattle.operands.specs.Calls.{encodedAs, encodedFrom, encodeOf}
 use Rattle.operands.specs.Answers.{InWord, word-made, misfit-at, madeOr, makes, confirmed, madeFor}
 use Rattle.operands.proofs.Cover.{placed-taken}
 use Rattle.operands.proofs.Inverse.{Good, entry-good, own-lt}
-use Rattle.operands.proofs.Answering.{Stands, length-fields}
+use Rattle.operands.proofs.Answering.{Stands}
 
 -- ---- by what lookup says of the word
 module _ (x : Outcome (Option ℕ)) (e w : ℕ) where

@@ -6,12 +6,12 @@ use native.Mathlib.Omega.{arith}
 use lib.ListN.{length}
 use Rattle.words.specs.Words.{word}
 use Rattle.table.specs.Table.{Entry, entryNumber, entryPlace, tableOf, fieldsOf, countOf}
-use Rattle.table.proofs.Laws.{length-entries}
+use Rattle.table.proofs.Laws.{length-entries, length-fields}
 use Rattle.operands.specs.Answers.{firstWords, Decodes}
 use Rattle.operands.specs.declared.Decoding.{Decoding}
 use Rattle.operands.specs.declared.Decoding.the-variants as decoding
 use Rattle.operands.proofs.Inverse.{decode-reads, decoded, selected-lt, length-values}
-use Rattle.operands.proofs.Answering.{stands, length-fields}
+use Rattle.operands.proofs.Answering.{stands}
 
 pub length-firsts : (n : ℕ) (out : List ℕ) → length (firstWords n out) ≡ n
 unfolding firstWords

@@ -1,22 +1,38 @@
 -- Demand 2, over the definitions that the calls' contracts cite. Assumes nothing.
 --   `selection::lookup` answers `lookOf (readTable ws) w`, `operands::decode` answers `decodeOf (readTable ws) w room`,
 --   `operands::encode` answers `encodeOf (readTable ws) e vs`, for every list of words ws and every w, room, e and vs.
-use mathlib.Core.Path.{_≡_}
+use mathlib.Core.Path.{_≡_, refl}
 use mathlib.Core.Logic.{_↔_}
-use mathlib.Core.List.{List}
+use mathlib.Core.List.{List, _++_}
 use mathlib.Core.Option.{none, some}
 use Prim.Native.Nat.{ℕ, _-_, _%_, _^_, _≤_, _<_}
-use lib.ListN.{length}
-use Rattle.words.specs.Outcome.{result, refused}
-use Rattle.table.specs.Table.{Entry, entryNumber, tableOf}
+use lib.ListN.{length, drop}
+use Rattle.words.specs.Outcome.{Outcome, result, faulty, refused}
+use Rattle.words.proofs.Outcomes.{faults-passed}
+use Rattle.table.specs.Table.{Entry, Table, entryNumber, tableOf}
 use Rattle.table.specs.Check.{fine, tableCheck, readTable}
 use Rattle.selection.specs.Lookup.{lookOf}
 use Rattle.selection.proofs.Formula.{Selects, Contested, Unclaimed}
-use Rattle.operands.specs.Calls.{entry-values, none-selected, decodeOf, encodeOf}
-use Rattle.operands.proofs.Looking.{looks-wide, looks-entry, looks-nothing, looks-ambiguous}
+use Rattle.operands.specs.Calls.{Decoded, entry-values, none-selected, decodeOf, bufferAfter, encodeOf}
+use Rattle.operands.proofs.Looking.{look-own, looks-wide, looks-entry, looks-nothing, looks-ambiguous}
 use Rattle.operands.proofs.Inverse.{table-good, looked-up, decode-reads, encode-reads, decode-encode, encode-decode}
 use Rattle.operands.proofs.Held.{Values, Holds, Asked, FirstMisfit}
-use Rattle.operands.proofs.Exactly.{ten, seven, six, no-entry, an-entry, eleven, twelve, thirteen, the-word}
+use Rattle.operands.proofs.Exactly.{decode-own, encode-own, ten, seven, six, no-entry, an-entry, eleven, twelve, thirteen, the-word}
+
+-- ---- "Numbers 1–4 come from the first faulty place .. Then: .. lookup 7, 6; decoding 10, 7, 6; encoding 11, 12, 13": a table's fault exactly
+-- where reading has it
+module _ (ws : List ℕ) (n p : ℕ) where
+  pub lookup-faulty : (w : ℕ) → (lookOf (readTable ws) w ≡ faulty n p) ↔ (readTable ws ≡ faulty n p)
+  unfolding lookOf
+  lookup-faulty w = faults-passed (λ (o : Outcome Table). lookOf o w) (λ a b. refl) (λ a b x. refl) (look-own w) (readTable ws) n p
+
+  pub decode-faulty : (w room : ℕ) → (decodeOf (readTable ws) w room ≡ faulty n p) ↔ (readTable ws ≡ faulty n p)
+  unfolding decodeOf
+  decode-faulty w room = faults-passed (λ (o : Outcome Table). decodeOf o w room) (λ a b. refl) (λ a b x. refl) (λ t. decode-own t w room) (readTable ws) n p
+
+  pub encode-faulty : (e : ℕ) (vs : List ℕ) → (encodeOf (readTable ws) e vs ≡ faulty n p) ↔ (readTable ws ≡ faulty n p)
+  unfolding encodeOf
+  encode-faulty e vs = faults-passed (λ (o : Outcome Table). encodeOf o e vs) (λ a b. refl) (λ a b x. refl) (λ t. encode-own t e vs) (readTable ws) n p
 
 -- ---- lookup, of a table that reads: "lookup 7, 6"; each answer exactly when, so that there is no other
 
@@ -66,6 +82,25 @@ module _ (ws : List ℕ) (reads : tableCheck ws ≡ fine) (w room : ℕ) where
   pub decode-nothing : (decodeOf (readTable ws) w room ≡ result none-selected)
       ↔ ((8 ≤ room) × (w < 2 ^ (tableOf ws .width)) × Unclaimed (tableOf ws .entries) w)
   decode-nothing = rw reads (no-entry (tableOf ws) w room)
+
+-- "Decoding writes field values in table order to the first words of the buffer; the rest is unchanged. The answer nothing writes nothing.";
+-- a refusal leaves all "unchanged"
+module _ (ws : List ℕ) (w : ℕ) (out : List ℕ) where
+  pub decode-written : (e : ℕ) (vs : List ℕ) → decodeOf (readTable ws) w (length out) ≡ result (entry-values e vs)
+      → bufferAfter (decodeOf (readTable ws) w (length out)) out ≡ vs ++ drop (length vs) out
+  unfolding bufferAfter
+  decode-written e vs q = rw q
+
+  pub decode-unwritten : ((e : ℕ) (vs : List ℕ) → decodeOf (readTable ws) w (length out) ≡ result (entry-values e vs) → ⊥)
+      → bufferAfter (decodeOf (readTable ws) w (length out)) out ≡ out
+  unfolding bufferAfter
+  decode-unwritten h = go (decodeOf (readTable ws) w (length out)) h
+    where
+      go : (o : Outcome Decoded) → ((e : ℕ) (vs : List ℕ) → o ≡ result (entry-values e vs) → ⊥) → bufferAfter o out ≡ out
+      go (result (entry-values e vs)) h = absurd (h e vs refl)
+      go (result none-selected) h = refl
+      go (faulty n p) h = refl
+      go (refused n p x) h = refl
 
 -- ---- encoding, of a table that reads: "encoding 11, 12, 13"; each answer exactly when, so that there is no other
 module _ (ws : List ℕ) (reads : tableCheck ws ≡ fine) (e : ℕ) (vs : List ℕ) where

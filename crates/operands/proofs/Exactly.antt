@@ -9,9 +9,9 @@ use lib.Dec.{ltb, leb, eqb}
 use lib.ListN.{length}
 use borrow.Author.Tests.{ltb-true, ltb-false, lt-ltb, le-ltb, eqb-true, eq-eqb, leb-true, leb-false, le-leb, lt-leb}
 use Rattle.words.specs.Tests.{_and_}
-use Rattle.words.specs.Outcome.{Outcome, result, refused}
-use Rattle.words.proofs.Logic.{cases, clash, isFalse, and-l, and-r, and-i}
-use Rattle.words.proofs.Outcomes.{not-refused, other-number}
+use Rattle.words.specs.Outcome.{Outcome, result, faulty, refused}
+use Rattle.words.proofs.Logic.{cases, options, clash, isFalse, and-l, and-r, and-i}
+use Rattle.words.proofs.Outcomes.{not-refused, not-faulty, refused-not-faulty, other-number}
 use Rattle.table.specs.Table.{Entry, Table, entryNumber}
 use Rattle.choice.specs.Rule.{Choice, names, nothing, ambiguous, selects}
 use Rattle.choice.proofs.Judging.{selects-names, names-selects}
@@ -34,6 +34,12 @@ unfolding decodedAs
 told-nothing es w (names e) q = absurd (let z : _≡_ {A = ℕ} 0 1 = cc in omega arith)
 told-nothing es w nothing q = refl
 told-nothing es w ambiguous q = absurd (let z : _≡_ {A = ℕ} 0 1 = cc in omega arith)
+
+told-own : (es : List Entry) (w : ℕ) (c : Choice) (n p : ℕ) → decodedAs es w c ≡ faulty n p → ⊥
+unfolding decodedAs
+told-own es w (names e) n p q = not-faulty q
+told-own es w nothing n p q = not-faulty q
+told-own es w ambiguous n p q = refused-not-faulty q
 
 module _ (t : Table) (w room : ℕ) where
   abbrev answer : Outcome Decoded
@@ -60,6 +66,10 @@ module _ (t : Table) (w room : ℕ) where
       (λ s. let k = ltb-true w _ s in c h k (chosen h k))
       (λ s. let k = ltb-false w _ s in b h k (wide h k)))
       (λ r. let h = leb-false 8 room r in a h (short h))
+
+  pub decode-own : (n p : ℕ) → answer ≡ faulty n p → ⊥
+  decode-own n p e =
+      three (λ h q. refused-not-faulty (sym q ∙ e)) (λ h k q. refused-not-faulty (sym q ∙ e)) (λ h k q. told-own (t .entries) w _ n p (sym q ∙ e))
 
   pub ten : (answer ≡ refused 10 0 0) ↔ (room < 8)
   ten = (
@@ -104,6 +114,17 @@ module _ (t : Table) (w room : ℕ) where
   )
 
 -- ---- encoding, of a table that reads
+pub encode-own : (t : Table) (e : ℕ) (vs : List ℕ) (n p : ℕ) → encodeOf (result t) e vs ≡ faulty n p → ⊥
+unfolding encodeOf encodedFrom encodedAs
+encode-own t e vs n p q =
+    cases (ltb e (length (t .entries)) and eqb (length vs) (length (entryNumber (t .entries) e .fields)))
+    (λ a. options (misfit 0 (entryNumber (t .entries) e .fields) vs)
+    (λ m. cases (selects (select (t .entries) (placed (entryNumber (t .entries) e .opcode .value) (entryNumber (t .entries) e .fields) vs)) e)
+    (λ s. not-faulty (rw (a, m, s) at q))
+    (λ s. refused-not-faulty (rw (a, m, s) at q)))
+    (λ i m. refused-not-faulty (rw (a, m) at q)))
+    (λ a. refused-not-faulty (rw a at q))
+
 module _ (t : Table) (good : GoodTable t) (e : ℕ) (vs : List ℕ) where
   abbrev made : ℕ
   made = placed (entryNumber (t .entries) e .opcode .value) (entryNumber (t .entries) e .fields) vs

@@ -39,7 +39,7 @@ pub record Asked (es : List Entry) (e : ℕ) (vs : List ℕ) : Type 0 where
   pub entry : e < length es
   pub count : length vs ≡ length (entryNumber es e .fields)
 
--- "value does not fit its field": value j is below 2 to the field's width
+-- not "value does not fit its field": value j is below 2 to the field's width
 abbrev pub Fits : List Field → List ℕ → ℕ → Type 0
 Fits fs vs j = getD vs j 0 < 2 ^ (fieldNumber fs j .width)
 

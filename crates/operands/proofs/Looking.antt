@@ -7,10 +7,10 @@ use Prim.Native.Nat.{ℕ, _^_, _≤_, _<_}
 use native.Mathlib.Omega.{arith}
 use lib.Dec.{ltb}
 use borrow.Author.Tests.{lt-ltb, le-ltb, ltb-false}
-use Rattle.words.specs.Outcome.{result, refused}
+use Rattle.words.specs.Outcome.{result, faulty, refused}
 use Rattle.words.proofs.Logic.{cases}
-use Rattle.words.proofs.Outcomes.{not-refused, other-number}
-use Rattle.table.specs.Table.{tableOf}
+use Rattle.words.proofs.Outcomes.{not-refused, not-faulty, refused-not-faulty, other-number}
+use Rattle.table.specs.Table.{Table, tableOf}
 use Rattle.table.specs.Check.{fine, tableCheck, readTable}
 use Rattle.choice.specs.Rule.{Choice, names, nothing, ambiguous}
 use Rattle.selection.specs.Selection.{select}
@@ -37,6 +37,15 @@ not-wide : (w : ℕ) (c : Choice) → lookedUp w c ≡ refused 7 0 0 → ⊥
 not-wide w (names i) h = not-refused h
 not-wide w nothing h = not-refused h
 not-wide w ambiguous h = other-number h (λ z. omega arith)
+
+looked-own : (w : ℕ) (c : Choice) (n p : ℕ) → lookedUp w c ≡ faulty n p → ⊥
+looked-own w (names i) n p h = not-faulty h
+looked-own w nothing n p h = not-faulty h
+looked-own w ambiguous n p h = refused-not-faulty h
+
+pub look-own : (w : ℕ) (t : Table) (n p : ℕ) → lookOf (result t) w ≡ faulty n p → ⊥
+unfolding lookOf
+look-own w t n p e = cases (ltb w (2 ^ (t .width))) (λ h. looked-own w (select (t .entries) w) n p (rw h at e)) (λ h. refused-not-faulty (rw h at e))
 
 pub looks-wide : (ws : List ℕ) → tableCheck ws ≡ fine → (w : ℕ) → (lookOf (readTable ws) w ≡ refused 7 0 0) ↔ (2 ^ (tableOf ws .width) ≤ w)
 unfolding lookOf

@@ -28,14 +28,9 @@ use Rattle.shuffle.proofs.Shuffling.{all-moved, tree-shuffled}
 
 -- ---- the words
 
-module _ (t u : Table) (wide : u .width ≡ t .width) (s : Shuffled (t .entries) (u .entries)) (sane : Sane t)
-    (small : size (tree (t .entries) (t .width)) + 1 < 65536) where
+module _ (t : Table) (sane : Sane t) (small : size (tree (t .entries) (t .width)) + 1 < 65536) where
   sound : Sound (t .width) (tree (t .entries) (t .width))
   sound = sound-tree (t .entries) (t .width) (sane .good) (sane .short)
-
-  pub written-shuffled : written (u .width) (tree (u .entries) (u .width)) ≡ map (movedWord (s .to)) (written (t .width) (tree (t .entries) (t .width)))
-  written-shuffled =
-      rw (wide, tree-shuffled (t .entries) (u .entries) s (t .width)) (written-moved (s .to) (t .width) (sane .narrow) (tree (t .entries) (t .width)) sound small)
 
   -- a word of kind 9 is that of an entry
   pub names-entry : (i : ℕ) → i < size (tree (t .entries) (t .width)) + 1 → kindOf (word (written (t .width) (tree (t .entries) (t .width))) i) ≡ 9
@@ -44,6 +39,12 @@ module _ (t u : Table) (wide : u .width ≡ t .width) (s : Shuffled (t .entries)
       let (e, named, q) = written-named (t .width) (sane .narrow) (tree (t .entries) (t .width)) sound small i h k in
       let (w, l, c) = leaf-exactly (t .entries) (t .width) (sane .good) e .0 named in
       (e, c .entry, q)
+
+module _ (t u : Table) (wide : u .width ≡ t .width) (s : Shuffled (t .entries) (u .entries)) (sane : Sane t)
+    (small : size (tree (t .entries) (t .width)) + 1 < 65536) where
+  pub written-shuffled : written (u .width) (tree (u .entries) (u .width)) ≡ map (movedWord (s .to)) (written (t .width) (tree (t .entries) (t .width)))
+  written-shuffled =
+      rw (wide, tree-shuffled (t .entries) (u .entries) s (t .width)) (written-moved (s .to) (t .width) (sane .narrow) (tree (t .entries) (t .width)) (sound t sane small) small)
 
   -- each word walks by the same tests to the moved entry, whatever words follow the trees
   pub walks-shuffled : Sane u → (rest more : List ℕ) (w : ℕ) → w < 2 ^ (t .width)
@@ -54,7 +55,7 @@ module _ (t u : Table) (wide : u .width ≡ t .width) (s : Shuffled (t .entries)
       let moved : tree (u .entries) (u .width) ≡ movedTree (s .to) g = ap (tree (u .entries)) wide ∙ tree-shuffled (t .entries) (u .entries) s (t .width) in
       let sound-u = sound-tree (u .entries) (u .width) (sane-u .good) (sane-u .short) in (
         record { entry = named (answer g w); count = length (asked g w); mask = maskOf (asked g w) },
-        walk-written (t .width) g rest w (sane .wide) (sane .narrow) (omega (arith, small)) sound h,
+        walk-written (t .width) g rest w (sane .wide) (sane .narrow) (omega (arith, small)) (sound t sane small) h,
         walk-written (u .width) (tree (u .entries) (u .width)) more w (sane-u .wide) (sane-u .narrow) (rw (moved, size-moved (s .to) g) (omega (arith, small))) sound-u (rw wide h)
             ∙ rw (moved, answer-moved (s .to) g w, asked-moved (s .to) g w, named-moved (s .to) (answer g w)),
       )

@@ -6,13 +6,14 @@
 use Prim.Native.Nat.{ℕ, zero, suc, _+_, _-_, _*_, _/_, _%_, _^_, _≤_, _<_, max}
 use native.Mathlib.Omega.{arith}
 use mathlib.Core.Path.{_≡_, refl, sym, ap, ap₂, _∙_, subst}
-use mathlib.Core.Bool.{Bool, true, cond}
+use mathlib.Core.Bool.{true, cond}
 use mathlib.Core.List.{List, [], _∷_, _++_, map, map-append}
 use mathlib.Core.Option.{orElse, Option·map}
-use lib.Dec.{ltb}
+use lib.Dec.{ltb, eqb}
 use lib.ListN.{length, List·getD-append}
 use lib.Seq.{getD-append-add}
 use borrow.Author.Tests.{ltb-true, ltb-false, ne-eqb}
+use Rattle.words.specs.Tests.{_and_}
 use Rattle.words.specs.Words.{word, part, bit, bits}
 use Rattle.words.proofs.Logic.{cases, or-il, or-ir}
 use Rattle.table.specs.Table.{kindOf}
@@ -71,17 +72,28 @@ module _ (to : ℕ → ℕ) where
 
   -- a word of another kind stays
   pub stays : (x : ℕ) → (kindOf x ≡ 9 → ⊥) → movedWord to x ≡ x
-  unfolding movedWord
-  stays x d = ap (λ (b : Bool). cond b (leafWord (names (to (bits 7 0 x)))) x) (ne-eqb (kindOf x) 9 d)
+  unfolding movedWord _and_
+  stays x d = rw (ne-eqb (kindOf x) 9 d)
+
+  -- and so does a damaged one
+  pub damaged-stays : (x : ℕ) → (bits 27 8 x ≡ 0 → ⊥) → movedWord to x ≡ x
+  unfolding movedWord _and_
+  damaged-stays x d = cases (eqb (kindOf x) 9) (λ t. rw (t, ne-eqb (bits 27 8 x) 0 d)) (λ t. rw t)
+
+  -- a leaf that names an entry
+  pub leaf-is : (x : ℕ) → kindOf x ≡ 9 → bits 27 8 x ≡ 0 → movedWord to x ≡ leafWord (names (to (bits 7 0 x)))
+  unfolding movedWord _and_
+  leaf-is x k s = rw (k, s)
 
   pub leaf-moved : (a : Choice) → ((e : ℕ) → a ≡ names e → e < 256) → leafWord (movedChoice to a) ≡ movedWord to (leafWord a)
-  unfolding leafWord movedWord part
+  unfolding leafWord movedWord part _and_
   leaf-moved (names e) h =
       let l : e < 256 = h e refl in
       let x : ℕ = 9 * 2 ^ 28 + e in
       let k : kindOf x ≡ 9 = omega arith in
+      let s : bits 27 8 x ≡ 0 = omega arith in
       let n : bits 7 0 x ≡ e = omega arith in
-      rw (k, n)
+      rw (k, s, n)
   leaf-moved nothing h = refl
   leaf-moved ambiguous h = refl
 

@@ -11,12 +11,11 @@ use borrow.Author.Tests.{eqb-true, eqb-false, eq-eqb}
 use Rattle.words.specs.Tests.{_and_}
 use Rattle.words.specs.Words.{word, part, bit, bits}
 use Rattle.words.specs.Outcome.{refused}
-use Rattle.words.proofs.Logic.{cases, same, and-l}
+use Rattle.words.proofs.Logic.{cases, same}
 use Rattle.table.specs.Table.{Entry, kindOf}
 use Rattle.choice.specs.Rule.{Choice, names, nothing, ambiguous, movedChoice, selects}
 use Rattle.choice.proofs.Judging.{judge-lt}
-use Rattle.choice.proofs.Within.{judge-moved}
-use Rattle.flat.specs.Nodes.{headerOf, testNode, nothingNode, nodeOf}
+use Rattle.flat.specs.Nodes.{headerOf, testNode, namesNode, nothingNode, nodeOf}
 use Rattle.flat.specs.declared.Header.the-variants.{Bad, Good}
 use Rattle.flat.specs.declared.Node.{Node}
 use Rattle.flat.specs.declared.Node.the-variants.{Damaged, Asks, Names, Nothing}
@@ -27,9 +26,9 @@ use Rattle.tree.specs.Written.{leafWord}
 use Rattle.tree.proofs.Paths.{node-names}
 use Rattle.checker.specs.Checker.{settled, isStepTwo, checkFrom, checkBelow, acceptsBy, accepts}
 use Rattle.shuffle.specs.Shuffled.{Shuffled}
-use Rattle.shuffle.specs.Moved.{movedWord, movedWords, NamesOnly, LeafOf}
-use Rattle.shuffle.proofs.Moving.{stays, leaf-moved}
-use Rattle.shuffle.proofs.Shuffling.{within, as-many}
+use Rattle.shuffle.specs.Moved.{movedWord, movedWords, NamesEntry, NamesOnly}
+use Rattle.shuffle.proofs.Moving.{stays, damaged-stays, leaf-is}
+use Rattle.shuffle.proofs.Shuffling.{judge-shuffled, as-many}
 
 abbrev movedNode : (ℕ → ℕ) → Node → Node
 movedNode to Damaged = Damaged
@@ -37,15 +36,17 @@ movedNode to (Asks b k) = Asks b k
 movedNode to (Names e) = Names (to e)
 movedNode to Nothing = Nothing
 
--- a node that names an entry is of kind 9
-names-kind : (width n i x e : ℕ) → nodeOf width n i x ≡ Names e → kindOf x ≡ 9
-unfolding nodeOf testNode nothingNode
-names-kind width n i x e h =
-    cases (eqb (kindOf x) 9)
-    (λ t. eqb-true _ _ t)
-    (λ t. absurd (cases (eqb (kindOf x) 8)
-    (λ k. not-test (eqb (bits 22 16 x) 0 and ltb (bits 27 23 x) width and leb (i + 2) (bits 15 0 x) and leb (bits 15 0 x) n) (rw k at h))
-    (λ k. cases (eqb (kindOf x) 10) (λ m. not-nothing (eqb (bits 27 0 x) 0) (rw (k, t, m) at h)) (λ m. damaged (rw (k, t, m) at h)))))
+-- a node that names an entry is of kind 9, has no spare bit, and names it in bits 7–0
+names-leaf : (width n i x e : ℕ) → nodeOf width n i x ≡ Names e → (kindOf x ≡ 9) × (bits 27 8 x ≡ 0) × (bits 7 0 x ≡ e)
+unfolding nodeOf testNode namesNode nothingNode
+names-leaf width n i x e h =
+    cases (eqb (kindOf x) 8)
+    (λ k. absurd (not-test (eqb (bits 22 16 x) 0 and ltb (bits 27 23 x) width and leb (i + 2) (bits 15 0 x) and leb (bits 15 0 x) n) (rw k at h)))
+    (λ k. cases (eqb (kindOf x) 9)
+    (λ t. cases (eqb (bits 27 8 x) 0)
+    (λ s. let q : Names (bits 7 0 x) ≡ Names e = rw (k, t, s) at h in let z : bits 7 0 x ≡ e = cc in (eqb-true _ _ t, eqb-true _ _ s, z))
+    (λ s. absurd (damaged (rw (k, t, s) at h))))
+    (λ t. absurd (cases (eqb (kindOf x) 10) (λ m. not-nothing (eqb (bits 27 0 x) 0) (rw (k, t, m) at h)) (λ m. damaged (rw (k, t, m) at h)))))
   where
     not-test : (b : Bool) → cond b (Asks (bits 27 23 x) (bits 15 0 x)) Damaged ≡ Names e → ⊥
     not-test true q = let z : _≡_ {A = ℕ} 0 1 = cc in omega arith
@@ -58,7 +59,11 @@ names-kind width n i x e h =
     damaged : Damaged ≡ Names e → ⊥
     damaged q = let z : _≡_ {A = ℕ} 0 1 = cc in omega arith
 
--- and no header
+node-leaf : (width n i x : ℕ) → kindOf x ≡ 9 → bits 27 8 x ≡ 0 → nodeOf width n i x ≡ Names (bits 7 0 x)
+unfolding nodeOf namesNode
+node-leaf width n i x k s = rw (k, s)
+
+-- a word of kind 9 is no header
 leaf-kind : (e : ℕ) → e < 256 → kindOf (leafWord (names e)) ≡ 9
 unfolding leafWord part
 leaf-kind e h = omega arith
@@ -94,24 +99,18 @@ module _ (es fs : List Entry) (s : Shuffled es fs) (few : length es ≤ 256) whe
       (λ t. eq-eqb _ _ (ap (s .to) (eqb-true d e t)))
 
   -- ---- a node
-  module _ (x : ℕ) (leaf : LeafOf es x) (width n i : ℕ) where
-    leaf-word : (e : ℕ) → e < length es → movedWord (s .to) (leafWord (names e)) ≡ leafWord (names (s .to e))
-    leaf-word e h = let l : e < 256 = omega arith in sym (leaf-moved (s .to) (names e) (λ d q. let z : e ≡ d = cc in rw z at l))
-
+  module _ (x : ℕ) (entry : NamesEntry es x) (width n i : ℕ) where
     node-moved : nodeOf width n i (movedWord (s .to) x) ≡ movedNode (s .to) (nodeOf width n i x)
     node-moved =
         cases (eqb (kindOf x) 9)
-        (λ t.
-        let (e, h, q) = leaf (eqb-true _ _ t) in
-        rw (q, leaf-word e h, node-names width n i e (omega arith), node-names width n i (s .to e) (to-few e h)))
-        (λ t. rw (stays (s .to) x (eqb-false _ _ t)) (sym (not-named (s .to) _ (λ e q. eqb-false _ _ t (names-kind width n i x e q)))))
+        (λ t. let k = eqb-true _ _ t in cases (eqb (bits 27 8 x) 0)
+        (λ u. let z = eqb-true _ _ u in
+        rw (leaf-is (s .to) x k z, node-leaf width n i x k z, node-names width n i (s .to (bits 7 0 x)) (to-few (bits 7 0 x) (entry k z))))
+        (λ u. let d = eqb-false _ _ u in rw (damaged-stays (s .to) x d) (sym (not-named (s .to) _ (λ e q. d (names-leaf width n i x e q .1))))))
+        (λ t. let d = eqb-false _ _ t in rw (stays (s .to) x d) (sym (not-named (s .to) _ (λ e q. d (names-leaf width n i x e q .0)))))
 
     named-lt : (e : ℕ) → nodeOf width n i x ≡ Names e → e < length es
-    named-lt e d =
-        let (f, h, q) = leaf (names-kind width n i x e d) in
-        let g : nodeOf width n i x ≡ Names f = ap (nodeOf width n i) q ∙ node-names width n i f (omega arith) in
-        let z : f ≡ e = cc in
-        rw z at h
+    named-lt e d = let (k, z, q) = names-leaf width n i x e d in rw q at (entry k z)
 
   -- ---- a choice
   selects-moved : (a : Choice) (e : ℕ) → ((j : ℕ) → a ≡ names j → j < length es) → e < length es → selects (movedChoice (s .to) a) (s .to e) ≡ selects a e
@@ -126,17 +125,13 @@ module _ (es fs : List Entry) (s : Shuffled es fs) (few : length es ≤ 256) whe
   nothing-moved nothing = refl
   nothing-moved ambiguous = refl
 
-  settled-moved : (c : Cell) → settled fs c ≡ movedChoice (s .to) (settled es c)
-  unfolding sure
-  settled-moved c = judge-moved es fs (s .to) (within es fs s) (sure c) (live c) (λ e t. and-l _ t) (λ i h t. (s .from i, s .from-inside i h, s .to-from i h))
-
   -- ---- the tree
-  module _ (words : List ℕ) (width n : ℕ) (only : (i : ℕ) → i ≤ n → LeafOf es (word words i)) where
+  module _ (words : List ℕ) (width n : ℕ) (only : (i : ℕ) → i ≤ n → NamesEntry es (word words i)) where
     abbrev renamed : List ℕ
     renamed = movedWords (s .to) words
 
     word-at : (i : ℕ) → word renamed i ≡ movedWord (s .to) (word words i)
-    unfolding movedWord part
+    unfolding movedWord part _and_
     word-at i = List·getD-map (movedWord (s .to)) words i 0
 
     node-at : (i : ℕ) → i ≤ n → nodeOf width n i (word renamed i) ≡ movedNode (s .to) (nodeOf width n i (word words i))
@@ -148,14 +143,14 @@ module _ (es fs : List Entry) (s : Shuffled es fs) (few : length es ≤ 256) whe
     check-renamed : (fuel : ℕ) (c : Cell) (i : ℕ) → i ≤ n → checkFrom fuel fs renamed width n c i ≡ checkFrom fuel es words width n c i
     unfolding checkFrom Says
     check-renamed zero c i l =
-        rw (node-at i l, settled-moved c)
+        rw (node-at i l, judge-shuffled es fs s c)
         (node-cases (nodeOf width n i (word words i))
         (λ d. rw d)
         (λ b k d. rw d)
         (λ e d. rw (d, selects-moved (settled es c) e (settles c) (named-lt (word words i) (only i l) width n i e d)))
         (λ d. rw (d, nothing-moved (settled es c))))
     check-renamed (suc fuel) c i l =
-        rw (node-at i l, settled-moved c)
+        rw (node-at i l, judge-shuffled es fs s c)
         (node-cases (nodeOf width n i (word words i))
         (λ d. rw d)
         (λ b k d.
@@ -187,13 +182,15 @@ module _ (es fs : List Entry) (s : Shuffled es fs) (few : length es ≤ 256) whe
     header-renamed =
         rw (word-at words 0 0 (λ i h. only i (omega arith)) 0, length-map words (movedWord (s .to)))
         (cases (eqb (kindOf (word words 0)) 9)
-        (λ t.
-        let (e, h, q) = only 0 (omega arith) (eqb-true _ _ t) in
-        bad-header (movedWord (s .to) (word words 0)) (length words) (rw (q, leaf-word (word words 0) (only 0 (omega arith)) 0 0 0 e h) (leaf-kind (s .to e) (to-few e h)))
-        ∙ sym (bad-header (word words 0) (length words) (eqb-true _ _ t)))
+        (λ t. let k = eqb-true _ _ t in cases (eqb (bits 27 8 (word words 0)) 0)
+        (λ u. let z = eqb-true _ _ u in
+        let few-to = to-few (bits 7 0 (word words 0)) (only 0 (omega arith) k z) in
+        bad-header (movedWord (s .to) (word words 0)) (length words) (rw (leaf-is (s .to) (word words 0) k z) (leaf-kind (s .to (bits 7 0 (word words 0))) few-to))
+        ∙ sym (bad-header (word words 0) (length words) k))
+        (λ u. rw (damaged-stays (s .to) (word words 0) (eqb-false _ _ u))))
         (λ t. rw (stays (s .to) (word words 0) (eqb-false _ _ t))))
 
-    nodes-only : (v n : ℕ) → headerOf (word words 0) (length words) ≡ Good v n → (i : ℕ) → i ≤ n → LeafOf es (word words i)
+    nodes-only : (v n : ℕ) → headerOf (word words 0) (length words) ≡ Good v n → (i : ℕ) → i ≤ n → NamesEntry es (word words i)
     nodes-only v n d i h = only i (omega (arith, header-number (word words 0) (length words) v n d))
 
     pub accepts-renamed : (width : ℕ) → accepts fs width (movedWords (s .to) words) ≡ accepts es width words

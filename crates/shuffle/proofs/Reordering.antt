@@ -1,7 +1,9 @@
 -- Document 02, No. 12, sentence by sentence, over the definitions that the calls' contracts cite. Assumes nothing.
 --   `maker::generate` answers `generateOf (readTable ws) (length out)` and leaves `bufferOf (readTable ws) out`; `maker::measure` answers
 --   `measureOf (readTable ws)`, `selection::lookup` `lookOf (readTable ws) w`, `operands::decode` `decodeOf (readTable ws) w (length out)`, whose
---   `bufferAfter` it leaves, `operands::encode` `encodeOf (readTable ws) e values`, and `walker::walk` `walkOf words w`.
+--   `bufferAfter` it leaves, `operands::encode` `encodeOf (readTable ws) e values`, `walker::walk` `walkOf words w`, `cost::cycles`
+--   `cyclesOf (readTable ws) e`, `withdrawal::count_changed` `changedOf (readTable ws) e list`, `checker::check` `checkOf (readTable ws) words`,
+--   `image::list` `listOf (readTable ws) words image (length out)`, whose `bufferOf` it leaves, and `image::step` `stepOf (readTable ws) words image a`.
 --     permuted (Permutations.antt)     every permutation of a list of entries is an order of it
 --     reordered-words     every table that reads has words for every order of its entries
 --     generated-alike     refused alike for 5, for 6 with the word, and for 19; else the same length
@@ -9,14 +11,16 @@
 --     word-moved, others-same, leaf-names, walk-moved     the words of the two trees, and their walks
 --     reached-alike     who is reached
 --     entries-same, sized-alike, lookup-moved, decode-moved, fields-same, encode-moved     the other calls: the moved entry, and nothing else
---     names-only     a tree that was written names only entries of its table
---     cycles-moved, count-moved, check-moved, list-moved, items-moved, step-moved     and these, of trees with their leaves renumbered
+--     cycles-moved, count-moved     an entry's cycles, and how many words its withdrawal changes
+--     names-only     a tree that is generated names only entries of its table
+--     check-moved, list-moved, items-moved, step-moved     the check, a listing with its buffer, and a step, with the tree's leaves renumbered
 use Prim.Native.Nat.{ℕ, _+_, _*_, _^_, _<_}
 use native.Mathlib.Omega.{arith}
 use mathlib.Core.Path.{_≡_, sym, ap, ap₂, _∙_}
 use mathlib.Core.Logic.{_↔_}
 use mathlib.Core.List.{List}
 use lib.ListN.{length, drop, replicate, List·getD-map}
+use Rattle.words.specs.Tests.{_and_}
 use Rattle.words.specs.Words.{word, part}
 use Rattle.words.specs.Outcome.{Outcome, result}
 use Rattle.table.specs.Table.{Entry, Table, entryNumber, kindOf}
@@ -51,6 +55,20 @@ use Rattle.shuffle.proofs.Generating.{written-shuffled, names-entry, wa
 pub reordered-words : (ws : List ℕ) (t : Table) → readTable ws ≡ result t → Small ws → (fs : List Entry) → Shuffled (t .entries) fs
     → Means (kindOf (word ws 0)) (t .width) fs (tableWords (kindOf (word ws 0)) (t .width) fs)
 reordered-words ws t reads s fs order = drawn-words ws t reads s fs (order .from) (within fs (t .entries) (turned order))
+
+-- a tree that is generated names only entries of its table
+pub names-only : (ws out : List ℕ) (t : Table) → readTable ws ≡ result t → (n : ℕ) → generateOf (readTable ws) (length out) ≡ result n
+    → NamesOnly (t .entries) (bufferOf (readTable ws) out)
+unfolding written headerWord leafWord part
+names-only ws out t reads n generated i h k z =
+    let sane = read-sane ws t reads in
+    let small = flat-small ws out t reads n generated in
+    let long = judgement ws out t reads n generated .1 in
+    let first : word (bufferOf (readTable ws) out) 0 ≡ 7 * 2 ^ 28 + t .width * 2 ^ 16 + size (tree (t .entries) (t .width)) = word-is ws out t reads n generated 0 (omega arith) in
+    let at-i = word-is ws out t reads n generated i (omega arith) in
+    let (e, l, q) = names-entry t sane small i (omega arith) (ap kindOf (sym at-i) ∙ k) in
+    let x : word (bufferOf (readTable ws) out) i ≡ 9 * 2 ^ 28 + e = at-i ∙ q in
+    omega (arith, sane .short)
 
 -- ---- two tables that read, of one width, the entries of the second in another order
 
@@ -94,7 +112,7 @@ module _ (ws vs : List ℕ) (t u : Table) (reads : readTable ws ≡ result t) (a
 
         -- each word of the second tree is the first's, with the entry moved where it names one
         pub word-moved : there ≡ movedWord (s .to) here
-        unfolding movedWord part
+        unfolding movedWord part _and_
         word-moved =
             word-is vs into u also n again i h
             ∙ ap (λ (x : List ℕ). word x i) (written-shuffled t u wide s (read-sane ws t reads) (flat-small ws out t reads n generated))
@@ -112,20 +130,9 @@ module _ (ws vs : List ℕ) (t u : Table) (reads : readTable ws ≡ result t) (a
         leaf-names k =
             let sane = read-sane ws t reads in
             let at-i = word-is ws out t reads n generated i h in
-            let (e, l, q) = names-entry t u wide s sane (flat-small ws out t reads n generated) i (omega (arith, judgement ws out t reads n generated .1)) (ap kindOf (sym at-i) ∙ k) in
+            let (e, l, q) = names-entry t sane (flat-small ws out t reads n generated) i (omega (arith, judgement ws out t reads n generated .1)) (ap kindOf (sym at-i) ∙ k) in
             let few : e < 256 = omega (arith, sane .short) in
             (e, l, at-i ∙ q, word-moved ∙ ap (movedWord (s .to)) (at-i ∙ q) ∙ sym (leaf-moved (s .to) (names e) (λ d p. let z : e ≡ d = cc in rw z at few)), s .each e l)
-
-      -- each tree that is written names only entries of its table
-      pub names-only : NamesOnly (t .entries) (bufferOf (readTable ws) out)
-      unfolding written headerWord part
-      names-only i h k =
-          let g = tree (t .entries) (t .width) in
-          let small = flat-small ws out t reads n generated in
-          let long = judgement ws out t reads n generated .1 in
-          let first : word (bufferOf (readTable ws) out) 0 ≡ 7 * 2 ^ 28 + t .width * 2 ^ 16 + size g = word-is ws out t reads n generated 0 (omega arith) in
-          let r = leaf-names i (omega arith) k in
-          (r .0, r .1, r .2)
 
   -- ---- "For 19 the two tables are refused alike, though the lowest entry may differ"
 

@@ -2,6 +2,7 @@
 --     select-shuffled, selects-shuffled     what a word selects is the moved entry
 --     reached-moved, all-moved     an entry that some word selects; every entry is one
 --     as-many     the two have as many entries
+--     judge-shuffled     what is settled in a cell is the moved entry
 --     tree-shuffled     the tree is the moved tree
 use Prim.Native.Nat.{ℕ, zero, suc, _<_}
 use native.Mathlib.Nat.{le-antisymm}
@@ -101,9 +102,13 @@ module _ (es fs : List Entry) (s : Shuffled es fs) where
 
   -- ---- the step
 
+  pub judge-shuffled : (c : Cell) → judge fs (sure c) (live c) ≡ movedChoice (s .to) (judge es (sure c) (live c))
+  unfolding sure
+  judge-shuffled c = judge-moved es fs (s .to) (within es fs s) (sure c) (live c) (λ e t. and-l _ t) (all-there (live c))
+
   settled-moved : (c : Cell) → settledAt (entryNumber fs) (length fs) c ≡ movedChoice (s .to) (settledAt (entryNumber es) (length es) c)
-  unfolding settledAt judge sure
-  settled-moved c = judge-moved es fs (s .to) (within es fs s) (sure c) (live c) (λ e t. and-l _ t) (all-there (live c))
+  unfolding settledAt judge
+  settled-moved = judge-shuffled
 
   abbrev movedStep : Step → Step
   movedStep (end a) = end (movedChoice (s .to) a)

@@ -7,6 +7,7 @@ use mathlib.Core.Logic.{_↔_}
 use mathlib.Core.Option.{Option, Option·map}
 use lib.Dec.{eqb}
 use lib.ListN.{length, take, drop}
+use Rattle.words.specs.Tests.{_and_}
 use Rattle.words.specs.Words.{word, bits}
 use Rattle.words.specs.Outcome.{Outcome, result, faulty, refused}
 use Rattle.table.specs.Table.{Entry, kindOf}
@@ -22,9 +23,9 @@ unfoldable pub movedTree : (ℕ → ℕ) → Tree → Tree
 movedTree to (leaf a) = leaf (movedChoice to a)
 movedTree to (test b l r) = test b (movedTree to l) (movedTree to r)
 
--- the same of a word of the written form: "Kind 9 names the entry in bits 7–0", which is moved; every other word stays
+-- the same of a word of the written form: "Kind 9 names the entry in bits 7–0", which is moved; every other word stays, and a damaged one too
 unfoldable pub movedWord : (ℕ → ℕ) → ℕ → ℕ
-movedWord to w = cond (eqb (kindOf w) 9) (leafWord (names (to (bits 7 0 w)))) w
+movedWord to w = cond (eqb (kindOf w) 9 and eqb (bits 27 8 w) 0) (leafWord (names (to (bits 7 0 w)))) w
 
 -- and of what a walk answers: the same count and mask
 abbrev pub movedWalk : (ℕ → ℕ) → Walk → Walk
@@ -65,13 +66,13 @@ movedStepped to (result o) = result (Option·map (movedStep to) o)
 movedStepped to (faulty n p) = faulty n p
 movedStepped to (refused n p w) = refused n p w
 
--- the words of a tree, whoever made it, that names only entries of the table: each of kind 9 among as many as its header says does; its
--- leaves renumbered
-abbrev pub LeafOf : List Entry → ℕ → Type 0
-LeafOf es x = kindOf x ≡ 9 → (e : ℕ) × (e < length es) × (x ≡ leafWord (names e))
+-- the words of a tree, whoever made it, that names only entries of the table: those of kind 9 without a spare bit, up to the last node that
+-- its first word tells of; and with its leaves renumbered
+abbrev pub NamesEntry : List Entry → ℕ → Type 0
+NamesEntry es x = kindOf x ≡ 9 → bits 27 8 x ≡ 0 → bits 7 0 x < length es
 
 abbrev pub NamesOnly : List Entry → List ℕ → Type 0
-NamesOnly es words = (i : ℕ) → i ≤ bits 15 0 (word words 0) → LeafOf es (word words i)
+NamesOnly es words = (i : ℕ) → i ≤ bits 15 0 (word words 0) → NamesEntry es (word words i)
 
 abbrev pub movedWords : (ℕ → ℕ) → List ℕ → List ℕ
 movedWords to words = map (movedWord to) words

@@ -17,7 +17,7 @@ use Rattle.words.specs.Words.{word, part}
 use Rattle.words.specs.Tests.{_and_, _or_}
 use Rattle.words.proofs.Logic.{cases, or-i, or-il, or-ir}
 use Rattle.words.specs.Outcome.{result, faulty}
-use Rattle.table.specs.Table.{kindOf, fieldLow, fieldWidth, fieldBits, formOf, fractionOf, ownBits, sizeOf, fieldsOf, conditionsOf, conditionEnd, conditionsEnd, hasCycles, fieldsPlace, entryEnd, entryPlace, entriesAt, countOf, widthOf}
+use Rattle.table.specs.Table.{kindOf, fieldLow, fieldWidth, fieldBits, formOf, fractionOf, ownBits, sizeOf, fieldsOf, conditionsOf, fieldsAt, unmatchingAt, conditionsAt, conditionEnd, conditionsEnd, hasCycles, fieldsPlace, entryEnd, entryPlace, entriesAt, countOf, widthOf}
 use Rattle.table.specs.Check.{Check, fine, fault, _then_, need, has, patternCheck, unmatchingCheck, unmatchingsCheck, conditionCheck, conditionsCheck, spareClear, formFits, fieldWord, fieldRule, fieldCheck, fieldsCheck, headCheck, cyclesCheck, entryCheck, entriesCheck, firstCheck, tableCheck, readTable}
 use Rattle.table.specs.Answer.{step, faultNumber, shapeOf, placeOf, Placed}
 use Rattle.table.specs.declared.Step.{Step}
@@ -464,6 +464,21 @@ module _ (ws : List ℕ) where
   unfolding entriesAt
   length-entries zero p = refl
   length-entries (suc n) p = ap suc (length-entries n (entryEnd ws p))
+
+  pub length-fields : (n p : ℕ) → length (fieldsAt ws n p) ≡ n
+  unfolding fieldsAt
+  length-fields zero p = refl
+  length-fields (suc n) p = ap suc (length-fields n (p + 1))
+
+  pub length-unmatching : (n p : ℕ) → length (unmatchingAt ws n p) ≡ n
+  unfolding unmatchingAt
+  length-unmatching zero p = refl
+  length-unmatching (suc n) p = ap suc (length-unmatching n (p + 3))
+
+  pub length-conditions : (n p : ℕ) → length (conditionsAt ws n p) ≡ n
+  unfolding conditionsAt
+  length-conditions zero p = refl
+  length-conditions (suc n) p = ap suc (length-conditions n (conditionEnd ws p))
 
   -- a refused table
   module _ (a b : ℕ) (e : tableCheck ws ≡ fault a b) where

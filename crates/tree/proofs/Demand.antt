@@ -1,9 +1,10 @@
 -- Demand 3, over the definitions that the calls' contracts cite. Assumes nothing.
---   `tree::generate` answers `generateOf (readTable ws) (length out)` and leaves `bufferOf (readTable ws) out` in the buffer,
+--   `maker::generate` answers `generateOf (readTable ws) (length out)` and leaves `bufferOf (readTable ws) out` in the buffer,
 --   for all lists of words ws and out; `walker::walk` answers `walkOf words w`, and `walker::walk_bytes` the same of the words of its bytes.
 --     Right     what a walk is when it is right
 --     right-walks     a walk is right whose path is that of a tree without conflict, which tests no bit twice
---     refused-word, refused-exactly     ambiguity
+--     faulty-first, five-exactly     what comes before ambiguity
+--     refused-exactly, refused-word     ambiguity
 --     clear-generated, neither-generated     when a tree is generated: it is refused neither by 6 nor by 19
 --     walk-right     the walks of the tree that was written
 use mathlib.Core.Path.{_≡_, refl, sym, ap, _∙_, subst}
@@ -13,13 +14,14 @@ use mathlib.Core.List.{List, [], _++_, append-nil}
 use mathlib.Core.Option.{Option, none, some}
 use Prim.Native.Nat.{ℕ, _+_, _^_, _≤_, _<_}
 use native.Mathlib.Omega.{arith}
-use borrow.Author.Tests.{leb-true}
+use borrow.Author.Tests.{leb-true, le-leb}
+use lib.Dec.{leb}
 use lib.ListN.{length, take, drop, replicate, List·getD-append}
 use lib.Seq.{take-at, drop-at}
-use Rattle.words.specs.Tests.{distinct}
+use Rattle.words.specs.Tests.{_and_, distinct}
 use Rattle.words.specs.Words.{word}
-use Rattle.words.proofs.Logic.{and-r, options}
-use Rattle.words.proofs.Outcomes.{not-refused}
+use Rattle.words.proofs.Logic.{clash, isFalse, and-l, and-r, and-i, options}
+use Rattle.words.proofs.Outcomes.{not-refused, not-faulty, refused-not-faulty, other-number, faults-passed}
 use Rattle.words.specs.Outcome.{Outcome, result, faulty, refused}
 use Rattle.table.specs.Table.{Entry, Table, countOf, tableOf}
 use Rattle.table.specs.Check.{fine, tableCheck, readTable}
@@ -52,7 +54,7 @@ pub record Right (es : List Entry) (width n : ℕ) (words : List ℕ) (w : ℕ) 
   -- the bits that w's path tests, in order, and what the path names
   pub tests : List ℕ
   pub walks : path n words width n w 1 ≡ arrives (named (select es w)) tests
-  -- "the walk ends without a refusal"; "The count it reports equals the number of tests on that path
+  -- "the walk ends without a refusal"; "The count it reports equals the number of tests on that path"
   pub answers : walkOf words w ≡ result (record { entry = named (select es w); count = length tests; mask = maskOf tests })
   -- "It names an entry exactly when that entry is the selected one,": it claims the word and is more specific than every other that does
   pub selected : (e : ℕ) → (named (select es w) ≡ some e) ↔ Selects es w e
@@ -60,7 +62,7 @@ pub record Right (es : List Entry) (width n : ℕ) (words : List ℕ) (w : ℕ) 
   pub unclaimed : (named (select es w) ≡ none) ↔ Unclaimed es w
   -- "Its path tests no bit twice."
   pub once : distinct tests ≡ true
-  -- and is at most the width."
+  -- "and is at most the width."
   pub few : length tests ≤ width
 
 -- ---- what a choice names
@@ -128,6 +130,25 @@ pub record Clear (fit : Bool) (clash lost : Option ℕ) : Type 0 where
   pub all : lost ≡ none
 
 module _ {A : Type 0} where
+  -- "Fit is decided before ambiguity."
+  judged-five : (b : Bool) (o u : Option ℕ) (a : A) → (judged b o u a ≡ refused 5 0 0) ↔ (b ≡ false)
+  unfolding judged
+  judged-five false (some w) u a = (λ e. refl, λ e. refl)
+  judged-five false none u a = (λ e. refl, λ e. refl)
+  judged-five true (some w) (some i) a = (λ e. absurd (other-number e (λ z. omega arith)), λ e. clash refl e)
+  judged-five true (some w) none a = (λ e. absurd (other-number e (λ z. omega arith)), λ e. clash refl e)
+  judged-five true none (some i) a = (λ e. absurd (other-number e (λ z. omega arith)), λ e. clash refl e)
+  judged-five true none none a = (λ e. absurd (not-refused e), λ e. clash refl e)
+
+  judged-own : (b : Bool) (o u : Option ℕ) (a : A) (n p : ℕ) → judged b o u a ≡ faulty n p → ⊥
+  unfolding judged
+  judged-own false (some w) u a n p e = refused-not-faulty e
+  judged-own false none u a n p e = refused-not-faulty e
+  judged-own true (some w) (some i) a n p e = refused-not-faulty e
+  judged-own true (some w) none a n p e = refused-not-faulty e
+  judged-own true none (some i) a n p e = refused-not-faulty e
+  judged-own true none none a n p e = not-faulty e
+
   pub judged-result : (b : Bool) (o u : Option ℕ) (a x : A) → judged b o u a ≡ result x → Clear b o u × (a ≡ x)
   unfolding judged
   judged-result false o u a x e = absurd (not-refused (sym e))
@@ -152,6 +173,12 @@ module _ {A : Type 0} where
   judged-lost true none (some j) a i e = let z : j ≡ i = cc in (refl, refl, ap some z)
   judged-lost true none none a i e = absurd (not-refused e)
 
+-- "Numbers 1–4 come from the first faulty place .. Then: generating 5, 6": a table's fault exactly where reading has it
+pub faulty-first : (ws : List ℕ) (room n p : ℕ) → (generateOf (readTable ws) room ≡ faulty n p) ↔ (readTable ws ≡ faulty n p)
+unfolding generateOf
+faulty-first ws room n p =
+    faults-passed (λ (o : Outcome Table). generateOf o room) (λ a b. refl) (λ a b x. refl) (λ t a b e. judged-own _ _ _ _ a b e) (readTable ws) n p
+
 -- ---- the tree of a table that reads, in a room of so many words
 
 module _ (ws : List ℕ) (t : Table) (reads : readTable ws ≡ result t) (room : ℕ) where
@@ -159,6 +186,17 @@ module _ (ws : List ℕ) (t : Table) (reads : readTable ws ≡ result t) (room :
   answered : generateOf (readTable ws) room ≡ judgedIn t room (size (tree (t .entries) (t .width)) + 1)
   unfolding generateOf
   answered = rw reads
+
+  -- 5 exactly when it does not fit: "A tree fits when nodes + 1 is at most the buffer's length and at most 16,384; conflict leaves count."
+  pub five-exactly : (generateOf (readTable ws) room ≡ refused 5 0 0)
+      ↔ ((size (tree (t .entries) (t .width)) + 1 ≤ room) × (size (tree (t .entries) (t .width)) + 1 ≤ 16384) → ⊥)
+  unfolding fits
+  five-exactly =
+      let n : ℕ = size (tree (t .entries) (t .width)) + 1 in
+      let five = judged-five (leb n room and leb n 16384) (conflict start (tree (t .entries) (t .width))) (lowestUnreached (t .entries) (t .width)) n in (
+        λ e h. clash (and-i (le-leb n room (h .0)) (le-leb n 16384 (h .1))) (five .0 (sym answered ∙ e)),
+        λ h. answered ∙ five .1 (isFalse (λ b. h (leb-true n room (and-l _ b), leb-true n 16384 (and-r _ b)))),
+      )
 
   -- 19 tells that it fits, has no conflict, and that the entry is the lowest that no word selects;
   pub nineteen-judged : (e : ℕ) → generateOf (readTable ws) room ≡ refused 19 e 0
@@ -257,18 +295,18 @@ module _ (ws out : List ℕ) (t : Table) (reads : readTable ws ≡ result t) whe
       let c = conflict-found (tree (t .entries) (t .width)) start w (tree-right (t .entries) (t .width) (sane ws out t reads .good) w ∙ a) in
       (c .0, answered ws t reads (length out) ∙ rw (c .1, f))
 
-  -- "The word returned is then such a word.";
-  pub refused-word : (w : ℕ) → generateOf (readTable ws) (length out) ≡ refused 6 0 w → (w < 2 ^ (t .width)) × Contested (t .entries) w
-  refused-word w e = let c = conflict-word w e in (c .0, ambiguous-exactly (t .entries) w .0 (c .1))
-
   -- "Generating is refused as ambiguous exactly when some word of the width is ambiguous: at least one entry claims it, and none of those that
   -- claim it is more specific than all the others."
   pub refused-exactly : fits (tree (t .entries) (t .width)) (length out) ≡ true
       → ((w : ℕ) × (generateOf (readTable ws) (length out) ≡ refused 6 0 w)) ↔ ((w : ℕ) × (w < 2 ^ (t .width)) × Contested (t .entries) w)
   refused-exactly f = (
-    λ r. let c = refused-word (r .0) (r .1) in (r .0, c .0, c .1),
+    λ r. let c = conflict-word (r .0) (r .1) in (r .0, c .0, ambiguous-exactly (t .entries) (r .0) .0 (c .1)),
     λ r. word-conflict f (r .0) (ambiguous-exactly (t .entries) (r .0) .1 (r .2)),
   )
+
+  -- "The word returned is then such a word."
+  pub refused-word : (w : ℕ) → generateOf (readTable ws) (length out) ≡ refused 6 0 w → (w < 2 ^ (t .width)) × Contested (t .entries) w
+  refused-word w e = let c = conflict-word w e in (c .0, ambiguous-exactly (t .entries) w .0 (c .1))
 
   -- where there is none, and each entry is selected by some word of the width, the tree is generated, if it fits
   pub clear-generated : fits (tree (t .entries) (t .width)) (length out) ≡ true → ((w : ℕ) → w < 2 ^ (t .width) → Contested (t .entries) w → ⊥)
@@ -288,7 +326,7 @@ module _ (ws out : List ℕ) (t : Table) (reads : readTable ws ≡ result t) whe
       (λ q. clear-judged ws t reads (length out) f clear q)
       (λ e q. absurd (nineteen e (clear-judged ws t reads (length out) f clear q)))
 
-  -- "Otherwise, whatever word of the width is walked through the tree written, which is that tree (`buffer-is`), the walk ends without a refusal.":
+  -- "Otherwise, whatever word of the width is walked through the tree written, which is that tree, the walk ends without a refusal." (that tree: `buffer-is`)
   -- in the whole buffer, and in the n words that were answered ("words lent after them change no walk")
   pub walk-right : (n : ℕ) → generateOf (readTable ws) (length out) ≡ result n → (w : ℕ) → w < 2 ^ (t .width)
       → Right (t .entries) (t .width) (size (tree (t .entries) (t .width))) (bufferOf (readTable ws) out) w

@@ -1,12 +1,13 @@
 -- Document 02, No. 2, sentence by sentence, over the definitions that the calls' contracts cite. Assumes nothing.
 --   `maker::measure` answers `measureOf (readTable ws)`; `maker::generate` answers `generateOf (readTable ws) (length out)` and leaves
 --   `bufferOf (readTable ws) out`; `walker::walk` answers `walkOf words w`.
---     sized-as-generated, refused-alike, faulty-alike     sizing says what generating within the tree limit says
+--     sized-as-generated, refused-alike, sized-five, faulty-alike     sizing says what generating within the tree limit says
 --     generated-sized     every table that generates into some buffer has a size
 --     lend-exactly     the words to lend
 --     none-deeper, some-deepest     the greatest number of tests
 --     small     both numbers have room in 16 bits
 use Prim.Native.Nat.{ℕ, _+_, _^_, _≤_, _<_}
+use native.Mathlib.Nat.{lt-of-not-le}
 use native.Mathlib.Omega.{arith}
 use mathlib.Core.Path.{_≡_, refl, sym, ap, _∙_}
 use mathlib.Core.Bool.{Bool, true, false}
@@ -29,7 +30,7 @@ use Rattle.tree.specs.Reach.{lowestUnreached}
 use Rattle.tree.specs.Generate.{fits, judged, generateOf, bufferOf, Measure, measured, surveyOf, measureOf}
 use Rattle.tree.proofs.Depth.{asked-few, tree-deepest, depth-few}
 use Rattle.tree.proofs.Paths.{sound-tree, walk-written, walk-counts}
-use Rattle.tree.proofs.Demand.{Clear, read-sane, judged-result, buffer-is, words-are}
+use Rattle.tree.proofs.Demand.{Clear, read-sane, judged-result, five-exactly, buffer-is, words-are}
 
 -- ---- "The tree limit applies: over it the answer is 5, then 6 as in generating"
 
@@ -70,6 +71,15 @@ counted-faulty (refused a b c) n p e = cc
 
 pub refused-alike : (ws : List ℕ) (n p w : ℕ) → (measureOf (readTable ws) ≡ refused n p w) ↔ (generateOf (readTable ws) 16384 ≡ refused n p w)
 refused-alike ws n p w = (λ e. sized-as-generated ws ∙ ap counted e, λ e. counted-refused _ n p w (sym (sized-as-generated ws) ∙ e))
+
+-- "over it the answer is 5"
+pub sized-five : (ws : List ℕ) (t : Table) → readTable ws ≡ result t
+    → (measureOf (readTable ws) ≡ refused 5 0 0) ↔ (16384 < size (tree (t .entries) (t .width)) + 1)
+sized-five ws t reads =
+    let five = five-exactly ws t reads 16384 in (
+      λ e. lt-of-not-le (λ h. five .0 (refused-alike ws 5 0 0 .0 e) (h, h)),
+      λ h. refused-alike ws 5 0 0 .1 (five .1 (λ k. omega (arith, k .0))),
+    )
 
 pub faulty-alike : (ws : List ℕ) (n p : ℕ) → (measureOf (readTable ws) ≡ faulty n p) ↔ (generateOf (readTable ws) 16384 ≡ faulty n p)
 faulty-alike ws n p = (λ e. sized-as-generated ws ∙ ap counted e, λ e. counted-faulty _ n p (sym (sized-as-generated ws) ∙ e))

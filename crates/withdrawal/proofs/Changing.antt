@@ -8,7 +8,7 @@
 --     faulty-first, no-such-entry, seven-exactly, six-exactly     what is refused
 use Prim.Native.Nat.{ℕ, _+_, _^_, _≤_, _<_}
 use native.Mathlib.Omega.{arith}
-use mathlib.Core.Path.{_≡_, sym, ap, _∙_}
+use mathlib.Core.Path.{_≡_, refl, sym, ap, _∙_}
 use mathlib.Core.Bool.{true, false}
 use mathlib.Core.Logic.{_↔_}
 use mathlib.Core.List.{List}
@@ -20,7 +20,7 @@ use Rattle.words.specs.Tests.{howMany}
 use Rattle.words.specs.Words.{word}
 use Rattle.words.specs.Outcome.{Outcome, result, faulty, refused}
 use Rattle.words.proofs.Logic.{cases, clash, isTrue, or-l, not-f}
-use Rattle.words.proofs.Outcomes.{not-refused, not-faulty, refused-not-faulty, other-number}
+use Rattle.words.proofs.Outcomes.{not-refused, refused-not-faulty, other-number, faults-passed}
 use Rattle.table.specs.Table.{Entry, Table, entryNumber, kindOf}
 use Rattle.table.specs.Check.{readTable}
 use Rattle.choice.specs.Rule.{names, ambiguous, selects, movedChoice}
@@ -148,16 +148,9 @@ module _ (ws : List ℕ) (t : Table) (reads : readTable ws ≡ result t) (k : �
   )
 
 -- "After the table's faults"
-faulty-of : (o : Outcome Table) (k : ℕ) (list : List ℕ) (n p : ℕ) → (changedOf o k list ≡ faulty n p) ↔ (o ≡ faulty n p)
-unfolding changedOf
-faulty-of (faulty a b) k list n p = (λ q. cc, λ q. cc)
-faulty-of (refused a b w) k list n p = (λ q. absurd (refused-not-faulty q), λ q. absurd (refused-not-faulty q))
-faulty-of (result t) k list n p = (
-  λ q. cases (ltb k (length (t .entries)))
-      (λ l. absurd (no-fault t k (ltb-true _ _ l) list n p (rw l at q)))
-      (λ l. absurd (refused-not-faulty (rw l at q))),
-  λ q. absurd (not-faulty q),
-)
-
 pub faulty-first : (ws list : List ℕ) (k n p : ℕ) → (changedOf (readTable ws) k list ≡ faulty n p) ↔ (readTable ws ≡ faulty n p)
-faulty-first ws list k n p = faulty-of (readTable ws) k list n p
+unfolding changedOf
+faulty-first ws list k n p =
+    faults-passed (λ (o : Outcome Table). changedOf o k list) (λ a b. refl) (λ a b x. refl)
+    (λ t a b q. cases (ltb k (length (t .entries))) (λ l. no-fault t k (ltb-true _ _ l) list a b (rw l at q)) (λ l. refused-not-faulty (rw l at q)))
+    (readTable ws) n p

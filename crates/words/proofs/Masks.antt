@@ -1,21 +1,21 @@
 -- Masks, bit by bit: a run of bits, a mask that another includes, two that have no bit in common. Assumes nothing.
-use Prim.Native.Nat.{ℕ, zero, suc, _+_, _-_, _*_, _/_, _%_, _^_, _≤_, _<_}
-use native.Mathlib.Nat.{pow-suc, mul-comm, mul-div-cancel}
+use Prim.Native.Nat.{ℕ, zero, suc, _+_, _-_, _/_, _%_, _^_, _≤_, _<_}
+use native.Mathlib.Nat.{pow-suc, mul-comm, mul-div-cancel, le-trans}
 use native.Mathlib.Omega.{arith}
 use mathlib.Core.Path.{_≡_, sym, ap, _∙_}
 use mathlib.Core.Bool.{true, false}
 use mathlib.Core.Logic.{_↔_}
-use lib.Bits.{bitAnd}
+use lib.Bits.{bitAnd, and-comm}
 use lib.Dec.{ltb, leb}
-use lib.Pow.{pow-pos}
+use lib.Pow.{pow-pos, pow-mono}
 use borrow.Author.Tests.{ltb-true, lt-ltb, le-ltb, leb-true, leb-false, le-leb}
 use Rattle.words.specs.Tests.{_and_}
 use Rattle.words.specs.Words.{bit, run, includes}
 use Rattle.words.proofs.Logic.{cases, clash, isFalse, same, and-l, and-r, and-i}
-use Rattle.words.proofs.Bits.{bit-low, bit-suc, bit-none, bit-and, bits-same, bit-upper, low-zero, includes-true, includes-is, includes-le, includes-bits}
+use Rattle.words.proofs.Bits.{bit-low, bit-suc, bit-none, bit-and, mask-agree, bits-same, bit-upper, low-zero, includes-true, includes-is, includes-le, includes-bits}
 use Rattle.words.proofs.Parts.{run-lt}
 
-lt-two-pow : (n : ℕ) → n < 2 ^ n
+pub lt-two-pow : (n : ℕ) → n < 2 ^ n
 lt-two-pow zero = omega arith
 lt-two-pow (suc n) = omega (arith, lt-two-pow n, pow-suc 2 n)
 
@@ -75,3 +75,19 @@ run-only k low width m h f =
     let le = includes-le (run low width) m (includes-exactly (run low width) m .1 (λ i t. run-exactly low width i .1 (f i .0 t))) in
     bits-same k m (run low width) (omega arith) r
     (λ i l. same (λ t. run-exactly low width i .1 (f i .0 t)) (λ t. f i .1 (run-exactly low width i .0 t)))
+
+-- ---- a number under a mask: "word AND mask equals value", where the value has no bit outside the mask
+
+both-under : (v m x : ℕ) → ((i : ℕ) → bit m i ≡ true → bit v i ≡ bit x i) → (i : ℕ) → bit v i and bit m i ≡ bit x i and bit m i
+both-under v m x f i = same (λ t. and-i (sym (f i (and-r _ t)) ∙ and-l _ t) (and-r _ t)) (λ t. and-i (f i (and-r _ t) ∙ and-l _ t) (and-r _ t))
+
+pub under-exactly : (v m x : ℕ) → includes m x ≡ true → (bitAnd v m ≡ x) ↔ ((i : ℕ) → bit m i ≡ true → bit v i ≡ bit x i)
+under-exactly v m x h =
+    let own : bitAnd x m ≡ x = and-comm x m ∙ includes-true m x h in
+    let k : ℕ = bitAnd v m + x in (
+      λ e i t. mask-agree v x m i (e ∙ sym own) t,
+      λ f. bits-same k (bitAnd v m) x
+          (le-trans (lt-two-pow (bitAnd v m)) (pow-mono {i = bitAnd v m} {j = k} (omega arith)))
+          (le-trans (lt-two-pow x) (pow-mono {i = x} {j = k} (omega arith)))
+          (λ i l. bit-and v m i ∙ both-under v m x f i ∙ sym (bit-and x m i) ∙ ap (λ (y : ℕ). bit y i) own),
+    )
