@@ -54,7 +54,7 @@ sum-but f (suc n) i h =
     (λ e. rw e (omega (arith, but-own f n, sum-same (but f n) f n (λ j l. but-other f n j (λ k. omega arith)))))
     (λ l. omega (arith, sum-but f n i l, but-other f i n (λ k. omega arith)))
 
--- at most as much where all are mapped, no two to one, to such as have as much
+-- a sum is at most another where its numbers are mapped, no two to one, to numbers that have as much
 sum-into : (f g : ℕ → ℕ) (to : ℕ → ℕ) (n m : ℕ) → ((i : ℕ) → i < n → to i < m) → ((i j : ℕ) → i < n → j < n → to i ≡ to j → i ≡ j)
     → ((i : ℕ) → i < n → g (to i) ≡ f i) → sum f n ≤ sum g m
 unfolding sum

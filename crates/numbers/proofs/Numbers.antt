@@ -5,7 +5,7 @@
 --     fine-exactly, low-free, two-exactly, four-exactly, twelve-exactly, room-exactly, length-exactly     what the calls take and refuse
 --     signed-forms, signed-all, stored-all, signed-small, turned, stored-fits     stored values and whole numbers
 --     text-all, text-says, minus-exactly, point-of-two, text-short, text-longest, written, unwritten     the text and its buffer
---     decoded-signed, plain-words, lookup-plain, generate-plain, buffer-plain, measure-plain, decode-plain, encode-plain, comes-back     the other calls
+--     decoded-signed, plain-words, plain-twice, lookup-plain, generate-plain, buffer-plain, measure-plain, decode-plain, encode-plain, comes-back     the other calls
 use Prim.Native.Nat.{ℕ, _+_, _^_, _≤_, _<_}
 use mathlib.Core.Bool.{true, false}
 use mathlib.Core.Path.{_≡_, refl, sym, ap, _∙_}
@@ -46,7 +46,7 @@ use Rattle.numbers.proofs.Judging.{width-some, width-most, form-most, f
 use Rattle.numbers.proofs.Answering.{answer-result}
 use Rattle.numbers.proofs.Refusing.{SpareSet, FormFault, Two, Four, Taken, spare-set, form-fault, taken, two, four, twelve}
 use Rattle.numbers.proofs.Alike.{same-kind, same-form, same-fraction}
-use Rattle.numbers.proofs.Plainness.{kept-plain, plain-is, plain-means}
+use Rattle.numbers.proofs.Plainness.{kept-plain, plain-is, plain-again, plain-means}
 use Rattle.numbers.proofs.Rooms.{passed-fault, passed, not-eighteen, too-long, long}
 use Rattle.numbers.proofs.Shortness.{plain-near, signed-near, whole-short, pointed-short}
 use Rattle.numbers.proofs.Ranges.{number-small}
@@ -276,10 +276,14 @@ pub decoded-signed : (ws : List ℕ) (t : Table) → readTable ws ≡ result t �
     → let p = fieldsPlace ws (entryPlace ws k) + j in let v = valueIn (fieldAt ws p) w in signedOf (word ws p) v ≡ result (numberOf (hasSign (word ws p)) (fieldWidth (word ws p)) v)
 decoded-signed ws t r k h j l w = signed-all _ (in-table ws t r k h j l) _ (part-lt w _ _)
 
--- forms change nothing else: every table that reads has words for the same table with plain fields;
+-- nor do other calls depend on forms: every table that reads has words for the same table with plain fields, which differs from it in forms
+-- only;
 pub plain-words : (ws : List ℕ) (t : Table) → readTable ws ≡ result t → Small ws
     → Means (kindOf (word ws 0)) (t .width) (plainTable t .entries) (tableWords (kindOf (word ws 0)) (t .width) (plainTable t .entries))
 plain-words = plain-means
+
+pub plain-twice : (t : Table) → plainTable (plainTable t) ≡ plainTable t
+plain-twice = plain-again
 
 -- and of these two, as of any two tables that read and differ in forms only, lookup, generating, sizing, decoding and encoding answer the same
 module _ (ws vs : List ℕ) (t u : Table) (r : readTable ws ≡ result t) (s : readTable vs ≡ result u) (d : plainTable t ≡ plainTable u) where

@@ -2,7 +2,7 @@
 use Prim.Native.Nat.{ℕ, _+_, _^_, zero-le}
 use native.Mathlib.Omega.{arith}
 use mathlib.Core.Bool.{true, cond}
-use mathlib.Core.Path.{_≡_, refl, ap}
+use mathlib.Core.Path.{_≡_, refl, ap, ap₂}
 use mathlib.Core.List.{List, [], _∷_, map}
 use mathlib.Core.Option.{Option, some}
 use lib.Bits.{bitOr}
@@ -49,6 +49,23 @@ kept-plain = record { no-cycles = refl; no-fields = refl; count = count; values 
 pub plain-is : (t : Table) → changedTable (λ n. n) (map plain) t ≡ plainTable t
 unfolding changedTable changed plainTable plainEntry
 plain-is t = refl
+
+-- plain fields stay plain
+fields-again : (fs : List Field) → map plain (map plain fs) ≡ map plain fs
+unfolding plain
+fields-again [] = refl
+fields-again (f ∷ fs) = ap (λ (l : List Field). plain f ∷ l) (fields-again fs)
+
+entries-again : (es : List Entry) → map plainEntry (map plainEntry es) ≡ map plainEntry es
+unfolding plainEntry
+entries-again [] = refl
+entries-again (e ∷ es) =
+    ap₂ (λ (fs : List Field) (l : List Entry). record { label = e .label; size = e .size; opcode = e .opcode; cycles = e .cycles; fields = fs; conditions = e .conditions } ∷ l)
+    (fields-again (e .fields)) (entries-again es)
+
+pub plain-again : (t : Table) → plainTable (plainTable t) ≡ plainTable t
+unfolding plainTable
+plain-again t = ap (λ (l : List Entry). record { width = t .width; entries = l }) (entries-again (t .entries))
 
 -- ---- the words of a table with plain fields
 

@@ -66,14 +66,15 @@ movedStepped to (result o) = result (Option·map (movedStep to) o)
 movedStepped to (faulty n p) = faulty n p
 movedStepped to (refused n p w) = refused n p w
 
--- the words of a tree, whoever made it, that names only entries of the table: those of kind 9 without a spare bit, up to the last node that
--- its first word tells of; and with its leaves renumbered
+-- a tree, whoever made it, names only entries of the table: each of its words, from the first to the last node that this tells of, that is of
+-- kind 9 without a spare bit names one
 abbrev pub NamesEntry : List Entry → ℕ → Type 0
 NamesEntry es x = kindOf x ≡ 9 → bits 27 8 x ≡ 0 → bits 7 0 x < length es
 
 abbrev pub NamesOnly : List Entry → List ℕ → Type 0
 NamesOnly es words = (i : ℕ) → i ≤ bits 15 0 (word words 0) → NamesEntry es (word words i)
 
+-- its words with the leaves renumbered
 abbrev pub movedWords : (ℕ → ℕ) → List ℕ → List ℕ
 movedWords to words = map (movedWord to) words
 

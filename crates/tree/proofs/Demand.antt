@@ -2,7 +2,8 @@
 --   `maker::generate` answers `generateOf (readTable ws) (length out)` and leaves `bufferOf (readTable ws) out` in the buffer,
 --   for all lists of words ws and out; `walker::walk` answers `walkOf words w`, and `walker::walk_bytes` the same of the words of its bytes.
 --     Right     what a walk is when it is right
---     right-walks     a walk is right whose path is that of a tree without conflict, which tests no bit twice
+--     right-walks     a walk is right whose header reads, and whose path names what the word selects and tests no bit twice
+--     buffer-is, word-is, after-is, refused-zero, faulty-left     the buffer afterwards
 --     faulty-first, five-exactly     what comes before ambiguity
 --     refused-exactly, refused-word     ambiguity
 --     clear-generated, neither-generated     when a tree is generated: it is refused neither by 6 nor by 19
@@ -179,6 +180,11 @@ unfolding generateOf
 faulty-first ws room n p =
     faults-passed (λ (o : Outcome Table). generateOf o room) (λ a b. refl) (λ a b x. refl) (λ t a b e. judged-own _ _ _ _ a b e) (readTable ws) n p
 
+-- 1 to 4 leave "all" unchanged
+pub faulty-left : (ws out : List ℕ) (n p : ℕ) → readTable ws ≡ faulty n p → bufferOf (readTable ws) out ≡ out
+unfolding bufferOf
+faulty-left ws out n p e = rw e
+
 -- ---- the tree of a table that reads, in a room of so many words
 
 module _ (ws : List ℕ) (t : Table) (reads : readTable ws ≡ result t) (room : ℕ) where
@@ -250,7 +256,8 @@ module _ (ws out : List ℕ) (t : Table) (reads : readTable ws ≡ result t) whe
     unfolding fits
     flat-small = omega (arith, leb-true (size grown + 1) 16384 (and-r _ (judgement .0 .fits)))
 
-    -- "The tree written is as many words, from the buffer's start, as generating returns"
+    -- "the tree written, which is that tree": document 01's, then the words that stood there; "The tree written is as many words, from the
+    -- buffer's start, as generating returns"
     pub buffer-is : bufferOf (readTable ws) out ≡ flat ++ drop (length flat) out
     unfolding bufferOf leftBy
     buffer-is = let g : generateOf (result t) (length out) ≡ result n = rw reads at generated in rw (reads, g)
