@@ -18,6 +18,7 @@ use Rattle.flat.specs.Walk.{arrives, path, maskOf, Walk, enters, walkOf}
 use Rattle.flat.specs.declared.Node.the-variants as node
 use Rattle.flat.proofs.Reading.{header-cases, header-nodes, node-cases, Says, node-says, Within, node-within}
 use Rattle.halves.specs.Common.{sideOf, bothOf, fromSides, commonFrom, commonBy, commonOf}
+use Rattle.halves.specs.declared.Side.the-variants.{Zero, One, Either}
 use Rattle.halves.specs.declared.Shared.{Shared}
 use Rattle.halves.specs.declared.Shared.the-variants as shared
 
@@ -59,6 +60,11 @@ both-told shared.Nothing shared.Several o q = absurd (not-told o q)
 both-told shared.Several y o q = absurd (not-told o q)
 
 -- ---- the path of a word with the upper half u
+
+-- bit 15 is open, and bit 16 is bit 0 of the upper half
+known-from : (u : ℕ) → (sideOf u 15 ≡ Either) × (sideOf u 16 ≡ cond (bit u 0) One Zero)
+unfolding sideOf
+known-from u = (refl, refl)
 
 module _ (u w : ℕ) (upper : w / 2 ^ 16 ≡ u) where
   -- a bit of the upper half is the word's

@@ -2,6 +2,7 @@
 use mathlib.Core.Path.{_≡_, refl, sym, ap, _∙_}
 use mathlib.Core.Bool.{Bool, true, false, cond}
 use mathlib.Core.List.{List, []}
+use mathlib.Core.Option.{none}
 use Prim.Native.Nat.{ℕ, suc, _+_, _≤_, _<_}
 use native.Mathlib.Numerals.{add-one}
 use native.Mathlib.Omega.{arith}
@@ -212,6 +213,11 @@ module _ (ws tree image : List ℕ) (a : Admission) (m : Admits ws tree image a)
     step-made at r s = s ∙ ap (λ (o : Outcome (List Entry)). stepFrom o tree image at) (sym e ∙ is-admitted)
 
 -- ---- the step where nothing is refused
+
+-- "at .. the image's end says end"
+end-at-the-end : (es : List Entry) (tree : List ℕ) → stepFrom (result es) tree [] (record { 0 = 0 }) ≡ result none
+unfolding stepFrom
+end-at-the-end es tree = refl
 
 module _ (es : List Entry) (tree image : List ℕ) (at : HalfwordAddress) where
   pub step-end : halfwords image ≤ at .0 → saidStep stepped.End ≡ stepFrom (result es) tree image at

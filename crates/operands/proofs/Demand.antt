@@ -1,6 +1,6 @@
 -- Demand 2, over the definitions that the calls' contracts cite. Assumes nothing.
---   `selection::lookup` answers `lookOf (readTable ws) w`, `operands::decode` answers `decodeOf (readTable ws) w room`,
---   `operands::encode` answers `encodeOf (readTable ws) e vs`, for every list of words ws and every w, room, e and vs.
+--   `selection::lookup` answers `lookOf (readTable ws) w`; `operands::decode` answers `decodeOf (readTable ws) w room`, for a buffer of `room` words,
+--   and leaves `bufferAfter` of it; `operands::encode` answers `encodeOf (readTable ws) e vs`: for every list of words ws and every w, room, e and vs.
 use mathlib.Core.Path.{_≡_, refl}
 use mathlib.Core.Logic.{_↔_}
 use mathlib.Core.List.{List, _++_}
