@@ -18,6 +18,7 @@
 #include "files.h"
 #include "items.h"
 #include "kilnumber.h"
+#include "refusals.h"
 
 /* Whether the cache's answer is another than the tree's. */
 static int differs(struct cache *cache, uint32_t word) {
@@ -46,9 +47,7 @@ int main(int arguments, char **argument) {
     uint32_t *items = malloc(4 * room + 1);
     if (items == NULL) stop(argument[3], "no memory");
     uint64_t result = kilnumber_list(table.at, table.count, tree.at, tree.count, image.at, image.count, items, room);
-    int failed = kilnumber_number(result) != 0;
-    if (failed) printf("refused %u\n", (unsigned)kilnumber_number(result));
-    else failed = walk_items(tree, image, items, kilnumber_items(result));
+    int failed = is_refused(result, table) || walk_items(tree, image, items, kilnumber_items(result));
     free(table.at);
     free(tree.at);
     free(image.at);

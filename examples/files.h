@@ -25,9 +25,9 @@ static void stop(const char *name, const char *why) {
 
 static struct bytes read_file(const char *name) {
     FILE *file = fopen(name, "rb");
-    if (file == NULL || fseek(file, 0, SEEK_END) != 0) stop(name, "can't be opened");
-    long length = ftell(file);
-    if (length < 0 || fseek(file, 0, SEEK_SET) != 0) stop(name, "has no length");
+    if (file == NULL) stop(name, "can't be opened");
+    long length = fseek(file, 0, SEEK_END) == 0 ? ftell(file) : -1;
+    if (length < 0 || fseek(file, 0, SEEK_SET) != 0) stop(name, "can't be read");
     struct bytes bytes = {malloc((size_t)length + 1), (size_t)length}; /* never null, also without a byte: the calls want a pointer */
     if (bytes.at == NULL || fread(bytes.at, 1, bytes.count, file) != bytes.count) stop(name, "can't be read");
     fclose(file);

@@ -16,12 +16,19 @@
 
 #include "files.h"
 #include "kilnumber.h"
+#include "numbers.h"
+#include "refusals.h"
 
-static uint32_t number_in(const char *text, int base) {
-    char *end;
-    unsigned long long number = strtoull(text, &end, base);
-    if (end == text || *end != '\0' || number > 0xffffffff) stop(text, "no number of 32 bits");
-    return (uint32_t)number;
+static uint32_t number_in(struct text text, uint32_t base, const char *what) {
+    uint32_t number = 0;
+    if (!take_number(&text, base, 0xffffffff, &number) || text.at != text.end)
+        stop(what, base == 16 ? "a hexadecimal number of 32 bits is wanted" : "a decimal number of 32 bits is wanted");
+    return number;
+}
+
+static struct text without_prefix(struct text text) {
+    if (text.end - text.at > 2 && text.at[0] == '0' && text.at[1] == 'x') text.at += 2;
+    return text;
 }
 
 /* An entry is its head, mask and value; in a table of kind 6 its cycles; its fields; its conditions (docs/FORMAT.md). */
@@ -33,6 +40,12 @@ static size_t next_entry(struct words table, size_t head) {
     size_t at = fields_of(table, head) + field_count(table.at[head]);
     for (uint32_t left = table.at[head] & 15; left > 0; left--) at += 3 + 3 * (table.at[at] & 15);
     return at;
+}
+
+/* The width is in bits 7-0 of a good table's first word. */
+static int is_too_wide(struct words table, uint32_t word) {
+    uint32_t width = table.at[0] & 0xff;
+    return width < 32 && word >> width != 0;
 }
 
 /* The field's bits of the word: the value that is stored for the operand. */
@@ -48,16 +61,6 @@ static void print_operand(uint32_t field, uint32_t word) {
     printf("bits %u-%u: %.*s\n", (unsigned)(lowest + width - 1), (unsigned)lowest, (int)kilnumber_text_length(result), (const char *)text);
 }
 
-/* The cycles don't matter here. But a table for which they are not refused is without fault, and has the entry: then its words may be
- * gone through without looking for the end. */
-static int refused(struct words table, uint32_t entry) {
-    uint64_t result = kilnumber_cycles(table.at, table.count, entry);
-    uint32_t number = kilnumber_number(result);
-    if (number == KILNUMBER_NO_ENTRY) printf("refused %u: the table has no entry %u\n", (unsigned)number, (unsigned)entry);
-    else if (number != 0) printf("refused %u: word %u of the table is at fault\n", (unsigned)number, (unsigned)kilnumber_list_place(result));
-    return number != 0;
-}
-
 static void print_operands(struct words table, uint32_t entry, uint32_t word) {
     size_t head = 1;
     for (; entry > 0; entry--) head = next_entry(table, head);
@@ -66,9 +69,12 @@ static void print_operands(struct words table, uint32_t entry, uint32_t word) {
 
 int main(int arguments, char **argument) {
     if (arguments != 4) stop("usage", "operands table entry word");
-    uint32_t entry = number_in(argument[2], 10), word = number_in(argument[3], 16);
+    uint32_t entry = number_in(text_of(argument[2]), 10, "entry"), word = number_in(without_prefix(text_of(argument[3])), 16, "word");
     struct words table = read_words(argument[1]);
-    int failed = refused(table, entry);
+    /* The cycles don't matter here. But a table for which they are not refused is without fault, and has the entry: then its words may be
+     * gone through without looking for the end. */
+    int failed = is_refused(kilnumber_cycles(table.at, table.count, entry), table);
+    if (!failed && is_too_wide(table, word)) stop("word", "it has a bit at or above the table's width");
     if (!failed) print_operands(table, entry, word);
     free(table.at);
     return failed;

@@ -10,44 +10,55 @@
  * microamperes that it draws for its one cycle (those of the example are made up). The image holds one word after another, low
  * byte first, each of as many bytes as the tree's width needs: 1, 2 or 4.
  *
- * It exits with 0 after a whole account, with 1 if something was refused and with 2 if a file is no good. (examples/lister.c has
- * the other way: instructions of 16 and 32 bits, listed at once.)
+ * It exits with 0 after a whole account, with 1 if something was refused and with 2 if a file is no good: then it names the file, and
+ * of the currents the line. (examples/lister.c has the other way: instructions of 16 and 32 bits, listed at once.)
  */
 
 #include <stdio.h>
 #include <stdlib.h>
+#include <string.h>
 
 #include "files.h"
 #include "kilnumber.h"
+#include "numbers.h"
+#include "refusals.h"
 
-#define ENTRIES 256 /* an entry's number has eight bits */
+#define MOST_CURRENT 999999999 /* microamperes; more is a slip */
 
 struct account {
-    unsigned long long current[ENTRIES], count[ENTRIES], unknown, refused;
-    int has_current[ENTRIES];
+    unsigned long long current[KILNUMBER_MOST_ENTRIES], count[KILNUMBER_MOST_ENTRIES], unknown, refused;
+    int has_current[KILNUMBER_MOST_ENTRIES];
 };
 
-static void read_currents(const char *name, struct account *account) {
-    FILE *file = fopen(name, "r");
-    if (file == NULL) stop(name, "can't be opened");
-    unsigned entry, microamperes;
-    int read;
-    while ((read = fscanf(file, "%3u %9u", &entry, &microamperes)) == 2) {
-        if (entry >= ENTRIES || account->has_current[entry]) stop(name, "an entry twice, or over 255");
-        account->current[entry] = microamperes;
-        account->has_current[entry] = 1;
-    }
-    if (read != EOF || ferror(file)) stop(name, "not a line of two numbers");
-    fclose(file);
+/* An entry and its current; what is wrong with the line, or NULL. A blank line has none. */
+static const char *read_current(struct text line, struct account *account) {
+    uint32_t entry = 0, current = 0;
+    if (skip_blanks(&line)) return NULL;
+    if (!take_number(&line, 10, KILNUMBER_MOST_ENTRIES - 1, &entry)) return "its first is no entry's number";
+    skip_blanks(&line);
+    if (!take_number(&line, 10, MOST_CURRENT, &current)) return "its second is no current";
+    if (!skip_blanks(&line)) return "it has more than two";
+    if (account->has_current[entry]) return "the entry has a current already";
+    account->current[entry] = current;
+    account->has_current[entry] = 1;
+    return NULL;
 }
 
-/* Once, before the first walk: with another table's tree, walks would go through and name wrong entries. */
-static int wrong_tree(struct words table, struct words tree) {
-    uint64_t result = kilnumber_check(table.at, table.count, tree.at, tree.count);
-    uint32_t number = kilnumber_number(result);
-    if (number == KILNUMBER_WRONG_TREE) printf("refused %u: the tree is not right for the table\n", (unsigned)number);
-    else if (number != 0) printf("refused %u: word %u of the table is at fault\n", (unsigned)number, (unsigned)kilnumber_list_place(result));
-    return number != 0;
+static void read_currents(const char *name, struct account *account) {
+    struct bytes file = read_file(name);
+    const char *at = (const char *)file.at, *end = at + file.count;
+    for (size_t number = 1; at < end; number++) {
+        const char *newline = memchr(at, '\n', (size_t)(end - at));
+        struct text line = {at, newline == NULL ? end : newline};
+        const char *wrong = read_current(line, account);
+        if (wrong != NULL) {
+            fprintf(stderr, "%s:%zu: %s (a line has an entry, 0 to %d, and its current, 0 to %d microamperes)\n", name, number, wrong,
+                    KILNUMBER_MOST_ENTRIES - 1, MOST_CURRENT);
+            exit(2);
+        }
+        at = newline == NULL ? end : newline + 1;
+    }
+    free(file.at);
 }
 
 /* The width is in bits 21-16 of a good tree's first word. */
@@ -62,12 +73,17 @@ static uint32_t word_at(const uint8_t *at, size_t size) {
     return word;
 }
 
-/* Charges one instruction; 1 if the account can't go on. The tree was checked, so a walk can only refuse the word: that is one fault of
- * the image, and the account goes on. */
+/* Of a walk. The tree was checked, so that only the word can be at fault: the account goes on, and the exit status tells. */
+static void print_refused_word(uint32_t number, size_t offset, uint32_t word) {
+    printf("refused %u: byte %zu: the word %08x %s\n", (unsigned)number, offset, (unsigned)word,
+           number == KILNUMBER_HIGH_WORD ? "has a bit at or above the tree's width" : "meets a damaged tree");
+}
+
+/* Charges one instruction; 1 if the account can't go on. */
 static int charge(struct account *account, struct words tree, uint32_t word, size_t offset) {
     uint64_t result = kilnumber_walk_words(tree.at, tree.count, word);
-    if (kilnumber_number(result) == KILNUMBER_HIGH_WORD) {
-        printf("refused 7: byte %zu: the word %08x has a bit at or above the tree's width\n", offset, (unsigned)word);
+    if (kilnumber_number(result) != 0) { /* any refusal: its bits for the entry are zero, and would be charged to entry 0 */
+        print_refused_word(kilnumber_number(result), offset, word);
         account->refused++;
         return 0;
     }
@@ -86,7 +102,7 @@ static int charge(struct account *account, struct words tree, uint32_t word, siz
 
 static void print_account(const struct account *account) {
     unsigned long long count = 0, charge = 0;
-    for (unsigned entry = 0; entry < ENTRIES; entry++) {
+    for (unsigned entry = 0; entry < KILNUMBER_MOST_ENTRIES; entry++) {
         if (account->count[entry] == 0) continue;
         unsigned long long its = account->count[entry] * account->current[entry];
         printf("entry %3u: %8llu times %6llu uA = %12llu\n", entry, account->count[entry], account->current[entry], its);
@@ -104,7 +120,8 @@ int main(int arguments, char **argument) {
     struct words table = read_words(argument[1]), tree = read_words(argument[2]);
     struct bytes image = read_file(argument[4]);
     read_currents(argument[3], &account);
-    int ended = wrong_tree(table, tree);
+    /* Once, before the first walk: with another table's tree, walks would go through and name wrong entries. */
+    int ended = is_refused(kilnumber_check(table.at, table.count, tree.at, tree.count), table);
     size_t size = ended ? 1 : bytes_a_word(tree);
     if (image.count % size != 0) stop(argument[4], "the last word is not whole");
     for (size_t offset = 0; offset < image.count && !ended; offset += size)

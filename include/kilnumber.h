@@ -6,9 +6,11 @@
  * docs/FORMAT.md has all that is written in bits: tables, trees, items and results, with every refusal's number and its place, and
  * the orders in which refusals are looked for. This file gives them names.
  *
- * - No pointer may be null, also with length 0. Lengths are in words for words and in bytes for bytes.
- * - Any bytes and words may be lent: what is wrong with them is answered, never a fault. Nothing lent is written but `items` and
- *   `text`, and nothing is read past the lengths.
+ * - No pointer may be null, also with length 0. Each pointer to words (uint32_t) is aligned to 4 bytes; bytes (uint8_t) need no alignment.
+ *   Lengths are in words for words and in bytes for bytes. All of what is lent can be read.
+ * - `items` and `text` are buffers, as `out` of kilnumber_words is: all of each can be written too, and it overlaps nothing else that is lent.
+ *   Nothing else is written.
+ * - Any bytes and words may be lent: what is wrong with them is answered, never a fault. Nothing is read or written past the lengths.
  * - Threads: no call keeps, allocates or locks anything. Calls may run at the same time on the same tree, table, image and list of
  *   words, as long as nobody writes to these meanwhile; each listing needs `items` of its own, each text `text` of its own.
  * - One tree for all calls: kilnumber_walk and kilnumber_mask take a tree as it stands in a file, as bytes; kilnumber_check and
@@ -25,6 +27,14 @@
 #ifdef __cplusplus
 extern "C" {
 #endif
+
+/* The limits. What is over one is refused, as docs/FORMAT.md says. A tree that is walked or checked may be longer than those that are made:
+ * its header counts up to 65,535 nodes. */
+#define KILNUMBER_MOST_TABLE_WORDS 16384
+#define KILNUMBER_MOST_ENTRIES 256 /* of a table */
+#define KILNUMBER_MOST_FIELDS 8    /* of an entry */
+#define KILNUMBER_MOST_TREE_WORDS 16384
+#define KILNUMBER_MOST_IMAGE_BYTES 2097152
 
 /* What kilnumber_number gives; the numbers are those of the causes in docs/FORMAT.md. */
 enum kilnumber_refusal {
@@ -99,17 +109,17 @@ uint64_t kilnumber_check(const uint32_t *table, size_t table_words, const uint32
 
 /* ------------------------------------------------------------------------------------------------------------- the listing */
 
-/* Lists a whole image by a table and its tree, which is checked first. `items` may not overlap what the others point to. After 0 and
- * KILNUMBER_NO_ROOM only the words of the items written are changed, else none. Refusals: 1 to 4, 15, 16, 14, 17. */
+/* Lists a whole image by a table and its tree, which is checked first. After 0 and KILNUMBER_NO_ROOM only the words of the items written are
+ * changed, else none. List an image over KILNUMBER_MOST_IMAGE_BYTES in parts, as examples/parts.h does. Refusals: 1 to 4, 15, 16, 14, 17. */
 uint64_t kilnumber_list(const uint32_t *table, size_t table_words, const uint32_t *tree, size_t tree_words,
                         const uint8_t *image, size_t image_bytes, uint32_t *items, size_t room);
 
 /* Without a refusal: the number of items of a listing. */
 static inline uint32_t kilnumber_items(uint64_t result) { return (uint32_t)(result & 0xffffffff); }
 
-/* The place in any result but a walk's, which has kilnumber_place: after 1 to 4 the index of the table's word at fault (0 of a field's
- * word by itself), after KILNUMBER_NO_ROOM the halfword address of the first item left out, after KILNUMBER_UNREACHED the number of
- * the entry. */
+/* The place in any result but a walk's, which has kilnumber_place: after 1 to 4 the index of the table's word at fault, or the table's
+ * length if the table ends early (0 of a field's word by itself); after KILNUMBER_NO_ROOM the halfword address of the first item left
+ * out; after KILNUMBER_UNREACHED the number of the entry. */
 static inline uint32_t kilnumber_list_place(uint64_t result) { return (uint32_t)(result & 0xffffffff); }
 
 /* An item: its kind, the entry where it is an instruction, and its halfword address; twice that is its offset in bytes. */

@@ -1,34 +1,41 @@
 """Reorders the entries of tables (second/shuffles.py) and asks probe the same of each table and of its reorderings: lookup, decode, encode,
-cycles, measure, and generate into equally long buffers with other words in them. What probe must print for a reordered table follows from
-its line for the table and from the order alone. The place of 19 is left open there; it must be the lowest entry of its own table that no
-word selects, by probe's own lookups of all words, or by the second implementation where they are too many. A part of the lines is compared
-with the second implementation too, and a part is asked again about twins of the other kind. At the end mistakes with the order
-(second/wrong_shuffles.py) are made, in programs and in what is expected of them, and each must be noticed.
+cycles, measure, and generate into equally long buffers with other words in them; how many words of a list a withdrawal changes; check, of
+the trees that probe made and of such trees with a mistake; and, of tables for images, list and step, with other words in the buffers. The
+leaves of a tree are renumbered for each reordering. What probe must print for a reordered table follows from its line for the table and from
+the order alone. The place of 19 is left open there; it must be the lowest entry of its own table that no word selects, by probe's own lookups
+of all words, or by the second implementation where they are too many. With a tree that is not renumbered, the second implementation alone
+says what check must. A part of the lines is compared with the second implementation too, and a part is asked again about twins of the other
+kind. At the end mistakes with the order (second/wrong_shuffles.py) are made, in programs and in what is expected of them, and each must be
+noticed.
 
 Usage: compare_shuffle.py [path of probe]. Exits with status 1 at the first difference. Quotations are document 02's No. 12.
 """
 
 import random
 import sys
-from collections import Counter
+from collections import Counter, defaultdict
 from contextlib import contextmanager
 from dataclasses import dataclass, field, replace
 
+import compare_check
+import compare_halves
+import compare_image
+import compare_withdrawal
 import probe
 import twinned
 from compare_tree import random_buffer
-from compare_withdrawal import apart_plan
-from exhaustive import found_in
-from second import examples, reach, shuffles, tables, tree, wrong_shuffles
+from exhaustive import REMEMBERED, found_in
+from second import checktrees, examples, image, images, reach, shuffles, tables, tree, trees, wrong_shuffles
 from second.lines import line_of
 from second.reader import Table, read
 from second.selection import field_value
-from second.shuffles import from_of, number_in, place_in
+from second.shuffles import from_of, number_in, place_in, written_in
 from second.tables import PLAIN, WITH_CYCLES
 from second.tree import MOST_TREE_WORDS
 from second.twins import Twins, kind_of
 
 SEED = 12
+MORE_SEED = 1201        # checks, listings and withdrawals; the other draws don't depend on them
 NARROW = 8              # tables up to that width are asked about all words
 ORDERS = 3              # of each table that has so many
 ROUNDS = 4              # of narrow tables
@@ -39,15 +46,27 @@ WITH_TREE = 0.7         # so many of the drawn plans lose the entries that no wo
 SOME_WORDS = 16         # looked up in a wide table
 SOME_DECODED = 6
 SOME_ENTRIES = 4        # encoded, and asked for their cycles
+SOME_LISTS = 4          # of words, each with an entry to withdraw
+MISTAKEN_NODES = 15     # trees of at most that many nodes are checked with mistakes too
+SOME_MISTAKES = 2       # in words, and as many in shapes
+IMAGE_TABLES = 40
+OTHER_TABLES = 8        # that are not for images: of each way to be none
+SOME_STEPS = 4          # through an image
 LIMIT_DEPTH = 13        # a full tree so deep has 16,383 nodes
 LARGE_OFTEN = 0.1       # so many of the refused tables are lent a buffer for the largest tree
 SECOND_EACH = 12        # every so many-th line is the second implementation's too
 SECOND_TABLES = 8       # and all trees of every so many-th table
 SMALL = 5               # and of the tables up to that width, on which mistakes are tried
+QUICK = 120             # and every so many-th check, listing, step or withdrawal that has at most that many words
 TWINS_EACH = 15         # every so many-th line about reordered tables is asked again about their twins
 MANY = "256 entries apart"
 LARGE = (MANY, "256 entries", "longest", "at the limit", "at the limit, twice", "at the limit, excluded", "one test over", "far over")
+IMAGES, NO_IMAGES, LETTERS = "for images", "not for images", "for images, 256 entries"
+CALLS = ("lookup", "decode", "encode", "cycles", "measure", "generate", "changed", "check", "list", "step")
 MAKING = ("measure", "generate")    # the calls that make the tree
+LENDING = ("generate", "list")      # the calls whose buffer's words are not the same for the reordered tables
+LISTING = ("list", "step")          # the calls with items
+MADE = "made by probe"              # a tree
 
 
 @dataclass(eq=False)
@@ -85,13 +104,21 @@ class Case:
     question: tuple
     again: list
     known: str = None       # the number of the refusal, where it is known; 0 for none
+    what: str = None        # what is asked, in words to count
     line: str = None
     seen: list = field(default_factory=list)
 
 
-def case_of(asked, name, *parts):
+def case_of(asked, name, *parts, known=None, what=None):
     question = (name, asked.words, *parts)
-    return Case(asked, question, [shuffles.moved_question(question, words, to) for (_, to), words in zip(asked.orders, asked.reordered)])
+    again = [shuffles.moved_question(question, words, to) for (_, to), words in zip(asked.orders, asked.reordered)]
+    return Case(asked, question, again, known, what)
+
+
+def lending_case(rng, length, asked, *parts, known=None, what=None):
+    """"equally long buffers", each with words of its own."""
+    case = case_of(asked, *parts, random_buffer(rng, length), known=known, what=what)
+    return replace(case, again=[(*others, random_buffer(rng, length)) for *others, _ in case.again])
 
 
 # ---------------------------------------------------------------------------- tables
@@ -175,7 +202,7 @@ def few_plans(rng):
         yield "one entry", one_entry_plan(rng, width)
     for width in (NARROW, NARROW + 1, 17, 32):
         yield "256 entries", tables.small_entries_plan(rng, width, 256)
-        yield MANY, apart_plan(rng, width)
+        yield MANY, compare_withdrawal.apart_plan(rng, width)
     yield from limit_plans(rng)
 
 
@@ -270,9 +297,7 @@ def cases_on(rng, asked):
 
 
 def generate_case(rng, asked, length, known=None):
-    """"generating into equally long buffers", each with words of its own."""
-    question = ("generate", asked.words, random_buffer(rng, length))
-    return Case(asked, question, [("generate", words, random_buffer(rng, length)) for words in asked.reordered], known)
+    return lending_case(rng, length, asked, "generate", known=known)
 
 
 def generate_cases(rng, asked):
@@ -291,6 +316,88 @@ def generate_cases(rng, asked):
         yield generate_case(rng, asked, MOST_TREE_WORDS, number)
 
 
+# ---------------------------------------------------------------------------- withdrawals and checks, with what probe said before
+
+def answers_in(cases):
+    """What the words select in each table, by probe's own lookups; words that are too high are left out."""
+    found = defaultdict(dict)
+    for case in cases:
+        if case.question[0] == "lookup" and number_in(case.line) != "7":
+            found[case.asked][case.question[2]] = found_in(case.line)
+    return found
+
+
+def trees_in(cases):
+    """The tree of each table that has one, by probe itself."""
+    return {case.asked: written_in(case.line) for case in cases if case.question[0] == "generate" and number_in(case.line) == "0"}
+
+
+def withdrawal_cases(rng, number, asked, answers):
+    """Some of the entries and lists that compare_withdrawal.py draws for the table, which has this number among all of them."""
+    laid = tables.Laid(asked.plan, asked.words, [])
+    drawn = compare_withdrawal.Asked(asked.name, laid, read(asked.words), answers, high_words(rng, asked))
+    cases = [*compare_withdrawal.cases_on(rng, number, drawn)]
+    for one in rng.sample(cases, min(SOME_LISTS, len(cases))):
+        yield case_of(asked, "changed", *one.question[2:], known=number_in(one.known), what=one.name)
+
+
+def some_of_kinds(rng, changes):
+    """A few of (what, changed), of different kinds."""
+    kinds = defaultdict(list)
+    for what, changed in changes:
+        kinds[what].append(changed)
+    return [(what, rng.choice(kinds[what])) for what in rng.sample([*kinds], min(SOME_MISTAKES, len(kinds)))]
+
+
+def mistaken_trees(rng, tree_words, count):
+    """(what, tree): one mistake in the words of a tree, or in its shape. The table has so many entries, and no other is named."""
+    index, width = rng.randrange(1, len(tree_words)), tree_words[0] >> 16 & 0x3F
+    in_words = [*compare_check.altered_in_words(rng, tree_words), *trees.altered_nodes(rng, tree_words, index), ("a word fewer", tree_words[:-1])]
+    shapes = compare_check.altered_shapes(rng, checktrees.shape_at(tree_words, 1), count)
+    some = some_of_kinds(rng, in_words) + [(what, checktrees.written(width, shape)) for what, shape in some_of_kinds(rng, shapes)]
+    return [(what, changed) for what, changed in some if shuffles.names_only(changed, count)]
+
+
+def check_cases(rng, asked, what, tree_words):
+    """The tree is accepted."""
+    yield case_of(asked, "check", tree_words, known="0", what=what)
+    if len(tree_words) - 1 <= MISTAKEN_NODES:
+        yield from (case_of(asked, "check", changed, what=mistake) for mistake, changed in mistaken_trees(rng, tree_words, asked.count))
+
+
+# ---------------------------------------------------------------------------- images
+
+def image_tables(path, rng):
+    """(name, table with a tree that is accepted): for images, not for images, and with 256 entries, whose tree probe makes."""
+    yield from ((IMAGES, one) for one in compare_image.ready_tables(rng, compare_halves.some_plan, IMAGE_TABLES))
+    for make in (images.wrong_length_plan, compare_image.other_width_plan):
+        yield from ((NO_IMAGES, one) for one in compare_image.ready_tables(rng, make, OTHER_TABLES))
+    letters = tables.lay_out(images.letters_plan())
+    (line,) = probe.ask(path, [("generate", letters.words, [0] * MOST_TREE_WORDS)])
+    yield LETTERS, compare_image.Ready(letters.plan, letters.words, written_in(line))
+
+
+def asked_with_images(rng, name, plan):
+    """Half of the tables are of kind 6, whose trees are the same."""
+    laid = rng.choice(tables.lay_out_both(rng, plan))
+    return Asked(name, laid.plan, laid.words, None, shuffles.some_orders(rng, len(plan.entries), ORDERS))
+
+
+def listing_cases(rng, asked, what, tree_words, data):
+    """A buffer that takes all items, one that may be too short, and steps at some addresses."""
+    halves = len(data) // 2
+    for length in (halves + rng.randrange(4), rng.randint(0, halves)):
+        yield lending_case(rng, length, asked, "list", tree_words, data, what=what)
+    for address in rng.sample(sorted(compare_image.addresses(rng, data)), SOME_STEPS):
+        yield case_of(asked, "step", tree_words, data, address, what=what)
+
+
+def image_cases(rng, asked, ready):
+    for what, _, tree_words, data in compare_image.usual_images(rng, [ready]):
+        if shuffles.names_only(tree_words, asked.count):
+            yield from listing_cases(rng, asked, what, tree_words, data)
+
+
 # ---------------------------------------------------------------------------- comparing
 
 def answer(path, cases):
@@ -300,7 +407,7 @@ def answer(path, cases):
 
 
 def lent_in(question):
-    return question[2] if question[0] == "generate" else ()
+    return question[-1] if question[0] in LENDING else ()
 
 
 def compared_orders(case, moved_line=shuffles.moved_line):
@@ -381,6 +488,22 @@ def count_tree(to, line, tally):
     tally["words after a tree"] += len(words) - length
 
 
+def items_with_ends(case):
+    """(item, the address after it) of a step, or of each item that listing left; with 17 the place is the address after the last one."""
+    name, _, _, data, _ = case.question
+    front = case.line.partition(" |")[0].split(" ")
+    if name == "step":
+        return [(int(front[4], 16), int(front[5]))] if len(front) > 5 else []
+    items, end = written_in(case.line), int(front[2]) if front[1] == "17" else len(data) // 2
+    return [*zip(items, [*(item & 0xFFFFF for item in items[1:]), end])]
+
+
+def count_items(case, to, tally):
+    for item, following in items_with_ends(case):
+        tally[f"{case.question[0]}, kind {item >> 28}, {following - (item & 0xFFFFF)} on"] += 1
+        tally[f"{case.question[0]}, items with another number"] += shuffles.moved_item(item, to) != item
+
+
 def count(case, tally):
     """Each reordering by itself."""
     name, number = case.question[0], number_in(case.line)
@@ -393,8 +516,16 @@ def count(case, tally):
         tally[f"{name} {number}, not word 0"] += case.line.split(" ")[3] != "00000000"
         tally[f"{name}, another number in it"] += case.line != seen
         tally[f"{name}, another entry asked"] += name in shuffles.TAKING and case.question[2] != again[2]
+        if case.what is not None:
+            tally[f"{name}, {case.what}: {number}"] += 1
         if name == "generate" and number == "0":
             count_tree(to, case.line, tally)
+        if name in LISTING:
+            count_items(case, to, tally)
+        if name == "list":
+            tally["words after items"] += len(lent_in(again)) - len(written_in(seen))
+        if name == "changed" and number == "0":
+            tally["changed, over 0"] += not seen.endswith(" 0")
         if name == "measure" and number == "19" and to != sorted(to):
             count_places(to, case.line, seen, tally)
 
@@ -431,6 +562,20 @@ def second_cases(some, cases):
     return others[::SECOND_EACH] + trees + many[:1]
 
 
+def is_quick(case):
+    """Whether the second implementation has it soon."""
+    return sum(len(part) for part in case.question[1:] if isinstance(part, list)) <= QUICK
+
+
+def compare_not_renumbered(path, cases, tally):
+    """The reordered tables with the table's tree as it is. The check of that doesn't follow from the table's: the second implementation
+    alone says what it must be."""
+    questions = [("check", words, case.question[2]) for case in cases if case.what == MADE for words in case.asked.reordered]
+    for question, seen in zip(questions, probe.ask(path, questions), strict=True):
+        probe.stop_at_difference("not renumbered", question, line_of(question), seen)
+        tally[f"not renumbered: {number_in(seen)}"] += 1
+
+
 def compare_twins(path, cases, tally):
     """A reordered table of the other kind."""
     answered = [(case.asked.name, question, line) for case in cases[::TWINS_EACH] for question, line in zip(case.again, case.seen)]
@@ -448,17 +593,22 @@ def check_examples(path):
 
 # ---------------------------------------------------------------------------- what must be noticed
 
+def forget():
+    for remembering in (*REMEMBERED, image.selecting_once):
+        remembering.cache_clear()
+
+
 @contextmanager
 def mistake_in(module, name, wrong):
-    """The second implementation with another function. The trees that it remembers are forgotten before and after."""
+    """The second implementation with another function. What it remembers is forgotten before and after."""
     right = getattr(module, name)
     setattr(module, name, wrong)
-    tree.nodes_once.cache_clear()
+    forget()
     try:
         yield
     finally:
         setattr(module, name, right)
-        tree.nodes_once.cache_clear()
+        forget()
 
 
 def by_second(case):
@@ -478,26 +628,31 @@ def reordered_so(case, wrong):
     return by_second(replace(case, again=again))
 
 
-def require_noticed(wrong, noticed):
+def require_noticed(wrong, noticed, what="table"):
     if not noticed:
-        sys.exit(f"no table shows it: {wrong.__doc__}")
+        sys.exit(f"no {what} shows it: {wrong.__doc__}")
 
 
 # The calls whose lines show a mistake in a function of the second implementation.
 SHOWN_BY = {"select": ("lookup",), "chosen_bit": MAKING, "refusal_by_leaves": MAKING, "refusal_of": MAKING,
-            **{name: (name,) for name in ("generate", "measure", "decode", "encode", "cycles")}}
+            **{name: (name,) for name in ("generate", "measure", "decode", "encode", "cycles", "changed")},
+            **{name: ("check",) for name in ("first_step", "named_right", "nothing_right")},
+            **{name: LISTING for name in ("of", "length", "kind_and_entry")}, "mask_at": ("step",), "answers_before": ("changed",)}
 
 
 def notice_wrong(cases):
     """Among lines that are right, and the second implementation's too."""
-    some = [case for case in cases if case.asked.count > 1 and (case.asked.width <= SMALL or case.asked.name == MANY)]
+    some = [case for case in cases if case.asked.count > 1 and (case.asked.width <= SMALL or case.asked.name in (MANY, IMAGES))]
+    of_call = {call: [case for case in some if case.question[0] == call] for call in CALLS}
     for module, name, wrong in wrong_shuffles.WRONG_PROGRAMS:
         with mistake_in(module, name, wrong):
-            require_noticed(wrong, any(differs(by_second(case)) for case in some if case.question[0] in SHOWN_BY[name]))
-    for wrong in wrong_shuffles.WRONG_LINES:
-        require_noticed(wrong, any(differs(case, wrong) for case in some))
+            require_noticed(wrong, any(differs(by_second(case)) for call in SHOWN_BY[name] for case in of_call[call]))
+    for wrong, calls in wrong_shuffles.WRONG_LINES:
+        for call in calls:
+            require_noticed(wrong, any(differs(case, wrong) for case in of_call[call]), call)
     for wrong in wrong_shuffles.WRONG_QUESTIONS:
-        require_noticed(wrong, any(differs(asked_so(case, wrong)) for case in some if case.question[0] in shuffles.TAKING))
+        for call in (*shuffles.TAKING, *shuffles.CHECKING):
+            require_noticed(wrong, any(differs(asked_so(case, wrong)) for case in of_call[call]), call)
     for wrong in wrong_shuffles.WRONG_TABLES:
         require_noticed(wrong, any(differs(reordered_so(case, wrong)) for case in some))
 
@@ -551,8 +706,24 @@ def ask_all(path, rng, some, tally):
     return cases + generating
 
 
+def ask_more(path, rng, cases):
+    """The same of what probe's lookups and trees are needed for, and of images."""
+    more = []
+    for number, (asked, answers) in enumerate(answers_in(cases).items()):
+        more += withdrawal_cases(rng, number, asked, answers)
+    for asked, tree_words in trees_in(cases).items():
+        more += check_cases(rng, asked, MADE, tree_words)
+    for name, ready in image_tables(path, rng):
+        asked = asked_with_images(rng, name, ready.plan)
+        check_laid(asked)
+        more += check_cases(rng, asked, "given", ready.tree[:1 + (ready.tree[0] & 0xFFFF)])
+        more += image_cases(rng, asked, ready)
+    answer(path, more)
+    return more
+
+
 def summary(tally):
-    calls = ", ".join(f"{name}: {tally[name]}" for name in ("lookup", "decode", "encode", "cycles", "measure", "generate"))
+    calls = ", ".join(f"{name}: {tally[name]}" for name in CALLS)
     generated = ", ".join(f"{what}: {tally[f'generate {number}']}" for what, number in (("tree", 0), ("5", 5), ("6", 6), ("19", 19)))
     places = tally["19, the same place"] + tally["19, another place"]
     programs, expectations = len(wrong_shuffles.WRONG_PROGRAMS), sum(map(len, WRONG_EXPECTATIONS))
@@ -573,11 +744,14 @@ def main():
         check_laid(asked)
         count_orders(asked, tally)
     cases = ask_all(path, rng, some, tally)
-    compare(cases, tally)
-    by_second_too = second_cases(some, cases)
+    more = ask_more(path, random.Random(MORE_SEED), cases)
+    compare(cases + more, tally)
+    quick = [case for case in more if is_quick(case)]
+    by_second_too = second_cases(some, cases) + quick[::SECOND_EACH]
     for case in by_second_too:
         compare_second(case, tally)
-    compare_twins(path, cases, tally)
+    compare_not_renumbered(path, quick[::SECOND_EACH], tally)
+    compare_twins(path, cases + quick, tally)
     probe.require_enough(tally, LEAST)
     notice_wrong(by_second_too)
     print(summary(tally))

@@ -1,7 +1,8 @@
 #!/usr/bin/env bash
 # Builds the C examples as their own comments say, under gcc's sanitizers, and runs them: simulator.c on the worked table, on
-# words of 16 and 32 bits and on each refusal; lister.c and cache.c on an AVR image, on the buoy's table and on each refusal;
-# operands.c on instructions of the buoy, AVR and A32, on operands of 32 bits and on each refusal.
+# words of 16 and 32 bits, on each refusal and on files of currents with a mistake; lister.c and cache.c on an AVR image, on the buoy's table,
+# on an image that is too long for one listing and on each refusal; operands.c on instructions of the buoy, AVR and A32, on operands of 32
+# bits, on each refusal and on arguments that are no numbers.
 # Every expected line is written here by hand. Then it shows that edits of the examples are noticed. (tests/c/cache_test.c tries
 # the cache with narrow and damaged trees.)
 # It needs gcc and python3, target/bin/mktree and the library; tests/run has just built that one (tests/c/run).
@@ -38,6 +39,8 @@ words 70200005 8f800003 a0000000 80000005 a0000000 90000000 > "$out/ends.tree"
 words 10010020 20002010 00000000 00000000 31000020 > "$out/signed.table"
 words 10010020 20002010 00000000 00000000 32100020 > "$out/point.table"
 words 10010003 20000310 00000004 00000004 > "$out/early.table"      # ends before the field
+words 10010003 30000310 00000004 00000004 30000002 > "$out/head.table" # word 1 is no entry's head
+head -c 65540 /dev/zero > "$out/long.table"                         # 16,385 words
 words 70030003 81000004 a0000000 90000000 > "$out/damaged.tree"     # the one side is past the last node
 words 70030003 81000003 90000000 90000000 > "$out/other.tree"       # well formed, and another table's
 head -c 15 "$out/three.tree" > "$out/cut.tree"
@@ -45,11 +48,23 @@ printf '0 7\n' > "$out/seven.currents"
 printf '\x00\x80\x80\x00\x01\xff' > "$out/sixteen.image"
 printf '\x00\x00\x00\x80\x80\x00\x00\x00\x01\x00\x00\xff' > "$out/thirty_two.image"
 printf '\x04\x08\x00' > "$out/three.image"                          # the second word is no word of three bits
-printf '5 7\n' > "$out/other.currents"
+printf '\r\n\t0  7 \r\n' > "$out/blanks.currents"
+printf '5 7' > "$out/other.currents"                                # no newline at the end
 printf '0 7\n0 8\n' > "$out/twice.currents"
 printf '0 seven\n' > "$out/text.currents"
+printf '1 1234567890\n' > "$out/ten_digits.currents"
+printf '12345\n' > "$out/five_digits.currents"
+printf '0 7\n\n-5 7\n' > "$out/minus.currents"
+printf '0 -7\n' > "$out/minus_current.currents"
+printf '0\n' > "$out/alone.currents"
+printf '0 7 8\n' > "$out/three_numbers.currents"
+printf '0 7\0\n' > "$out/zero_byte.currents"
+printf '256 7\n' > "$out/over.currents"
 printf '\x00\x0f\xf3\x1f\x00\xe0\x34\x12\x00\xb1\x00\xe0' > "$out/buoy.image"  # 0f00 1ff3 e000 1234 b100 e000
 for turn in 1 2 3; do head -c 46 examples/avr.image; done > "$out/loop.image" # without the last halfword, which is cut off
+# The same 45,700 times, but for the first 6 bytes: 2,102,194 bytes. The byte after 2,097,152 of them is in the middle of 940e 0040.
+python3 -c 'import sys; sys.stdout.buffer.write((open("examples/avr.image", "rb").read(46) * 45700)[6:])' > "$out/long.image"
+head -c 2102193 "$out/long.image" > "$out/long_odd.image"
 printf '\x00\x80\x00\x00\x00\x80\x01\x00\x34\x80\x03\x00\x12\x80' > "$out/ends.image" # 8000 0000 8000 0001 8034 0003 8012
 
 cat > "$out/simulator.expected" <<'END'
@@ -71,6 +86,10 @@ entry   0:        2 times      7 uA =           14
 total:            2 words           =           14 microampere cycles
 unknown words: 1
 status 0
+entry   0:        2 times      7 uA =           14
+total:            2 words           =           14 microampere cycles
+unknown words: 1
+status 0
 refused 7: byte 1: the word 00000008 has a bit at or above the tree's width
 entry   0:        1 times      7 uA =            7
 total:            1 words           =            7 microampere cycles
@@ -83,15 +102,41 @@ refused 14: the tree is not right for the table
 status 1
 refused 14: the tree is not right for the table
 status 1
-refused 2: word 4 of the table is at fault
+refused 2: the table ends early, after 4 words
+status 1
+refused 2: word 1 of the table is at fault
 status 1
 byte 0: entry 0 has no current
 status 1
+target/examples/three.image: the last word is not whole
 status 2
+target/examples/cut.tree: not whole words
 status 2
+target/examples/no_such_file: can't be opened
 status 2
+target/examples: can't be read
 status 2
+target/examples/twice.currents:2: the entry has a current already (a line has an entry, 0 to 255, and its current, 0 to 999999999 microamperes)
 status 2
+target/examples/text.currents:1: its second is no current (a line has an entry, 0 to 255, and its current, 0 to 999999999 microamperes)
+status 2
+target/examples/ten_digits.currents:1: its second is no current (a line has an entry, 0 to 255, and its current, 0 to 999999999 microamperes)
+status 2
+target/examples/five_digits.currents:1: its first is no entry's number (a line has an entry, 0 to 255, and its current, 0 to 999999999 microamperes)
+status 2
+target/examples/minus.currents:3: its first is no entry's number (a line has an entry, 0 to 255, and its current, 0 to 999999999 microamperes)
+status 2
+target/examples/minus_current.currents:1: its second is no current (a line has an entry, 0 to 255, and its current, 0 to 999999999 microamperes)
+status 2
+target/examples/alone.currents:1: its second is no current (a line has an entry, 0 to 255, and its current, 0 to 999999999 microamperes)
+status 2
+target/examples/three_numbers.currents:1: it has more than two (a line has an entry, 0 to 255, and its current, 0 to 999999999 microamperes)
+status 2
+target/examples/zero_byte.currents:1: its second is no current (a line has an entry, 0 to 255, and its current, 0 to 999999999 microamperes)
+status 2
+target/examples/over.currents:1: its first is no entry's number (a line has an entry, 0 to 255, and its current, 0 to 999999999 microamperes)
+status 2
+usage: simulator table tree currents image
 status 2
 END
 
@@ -129,15 +174,27 @@ status 0
      c: 8012       cut off
 status 0
 status 0
+1ffffc: bfcd       entry 87
+1ffffe: 940e 0040  entry 78
+200002: 940c 0045  entry 77
+2013b0: cfff       entry 88
+status 0
+822599 lines
 refused 14: the tree is not right for the table
 status 1
 refused 15: the table is not for images
 status 1
-refused 16: the image is odd or too long
+refused 16: the image has an odd number of bytes, or over 2097152 at once
 status 1
-refused 2: word 4 of the table is at fault
+refused 16: the image has an odd number of bytes, or over 2097152 at once
 status 1
+refused 2: the table ends early, after 4 words
+status 1
+refused 1: the table has over 16384 words
+status 1
+target/examples/cut.tree: not whole words
 status 2
+target/examples: can't be read
 status 2
 END
 
@@ -157,15 +214,19 @@ status 0
 status 0
 0 items: 0 hits, 0 misses
 status 0
-refused 14
+refused 14: the tree is not right for the table
 status 1
-refused 15
+refused 15: the table is not for images
 status 1
-refused 16
+refused 16: the image has an odd number of bytes, or over 2097152 at once
 status 1
-refused 2
+refused 16: the image has an odd number of bytes, or over 2097152 at once
 status 1
+refused 2: the table ends early, after 4 words
+status 1
+target/examples/cut.tree: not whole words
 status 2
+target/examples: can't be read
 status 2
 END
 
@@ -204,27 +265,47 @@ bits 31-0: -1
 status 0
 bits 31-0: -32768.0000000000000000
 status 0
-refused 11: the table has no entry 97
+bits 6-6: 0
+bits 3-2: 1
+bits 1-0: 2
+status 0
+word: it has a bit at or above the table's width
+status 2
+refused 11: the table has no such entry
 status 1
-refused 11: the table has no entry 256
+refused 11: the table has no such entry
 status 1
-refused 2: word 4 of the table is at fault
+refused 2: the table ends early, after 4 words
 status 1
-refused 1: word 0 of the table is at fault
+refused 1: the table ends early, after 0 words
 status 1
+word: a hexadecimal number of 32 bits is wanted
 status 2
+entry: a decimal number of 32 bits is wanted
 status 2
+word: a hexadecimal number of 32 bits is wanted
 status 2
+entry: a decimal number of 32 bits is wanted
 status 2
+entry: a decimal number of 32 bits is wanted
 status 2
+entry: a decimal number of 32 bits is wanted
+status 2
+word: a hexadecimal number of 32 bits is wanted
+status 2
+word: a hexadecimal number of 32 bits is wanted
+status 2
+target/examples/cut.tree: not whole words
+status 2
+usage: operands table entry word
 status 2
 END
 
 run() { # program, its files
     local status=0
-    ASAN_OPTIONS=allocator_may_return_null=1 "$@" 2> "$out/stderr" || status=$?
-    if grep -q 'ERROR: .*Sanitizer\|runtime error' "$out/stderr"; then cat "$out/stderr"; fi
-    if [ "$status" = 2 ] && ! [ -s "$out/stderr" ]; then echo 'no reason'; fi
+    ASAN_OPTIONS=allocator_may_return_null=1 timeout 60 "$@" 2> "$out/stderr" || status=$?
+    # without the sanitizer's warning of memory that there isn't, for a folder
+    if grep -q 'ERROR: .*Sanitizer\|runtime error' "$out/stderr"; then cat "$out/stderr"; else sed '/^==/d' "$out/stderr"; fi
     echo "status $status"
 }
 
@@ -232,18 +313,23 @@ simulator_runs() { # program
     run "$1" examples/worked.table "$out/worked.tree" examples/worked.currents examples/worked.image
     run "$1" "$out/sixteen.table" "$out/sixteen.tree" "$out/seven.currents" "$out/sixteen.image"
     run "$1" "$out/thirty_two.table" "$out/thirty_two.tree" "$out/seven.currents" "$out/thirty_two.image"
+    run "$1" "$out/thirty_two.table" "$out/thirty_two.tree" "$out/blanks.currents" "$out/thirty_two.image"
     run "$1" "$out/three.table" "$out/three.tree" "$out/seven.currents" "$out/three.image"
     run "$1" "$out/three.table" "$out/damaged.tree" "$out/seven.currents" "$out/three.image"
     run "$1" "$out/three.table" "$out/other.tree" "$out/seven.currents" "$out/three.image"
     run "$1" "$out/three.table" /dev/null "$out/seven.currents" "$out/three.image"
     run "$1" "$out/early.table" "$out/three.tree" "$out/seven.currents" "$out/three.image"
+    run "$1" "$out/head.table" "$out/three.tree" "$out/seven.currents" "$out/three.image"
     run "$1" "$out/three.table" "$out/three.tree" "$out/other.currents" "$out/three.image"
     run "$1" "$out/sixteen.table" "$out/sixteen.tree" "$out/seven.currents" "$out/three.image"  # the last word is not whole
     run "$1" "$out/three.table" "$out/cut.tree" "$out/seven.currents" "$out/three.image"
     run "$1" "$out/three.table" "$out/three.tree" "$out/seven.currents" "$out/no_such_file"
     run "$1" "$out/three.table" "$out/three.tree" "$out/seven.currents" "$out"                  # a folder
-    run "$1" "$out/three.table" "$out/three.tree" "$out/twice.currents" "$out/three.image"
-    run "$1" "$out/three.table" "$out/three.tree" "$out/text.currents" "$out/three.image"
+    local wrong
+    for wrong in twice text ten_digits five_digits minus minus_current alone three_numbers zero_byte over; do
+        run "$1" "$out/three.table" "$out/three.tree" "$out/$wrong.currents" "$out/three.image"
+    done
+    run "$1" "$out/three.table"
 }
 
 lister_runs() { # program
@@ -251,10 +337,13 @@ lister_runs() { # program
     run "$1" data/buoy.table "$out/buoy.tree" "$out/buoy.image"
     run "$1" "$out/ends.table" "$out/ends.tree" "$out/ends.image"        # with 0 for its other half the last one would be unknown
     run "$1" data/avr.table "$out/avr.tree" /dev/null                    # an image without bytes has no items
+    run "$1" data/avr.table "$out/avr.tree" "$out/long.image" | awk '/^(1ffffc|1ffffe|200002|2013b0):|^status/; END { print NR " lines" }'
     run "$1" data/avr.table "$out/buoy.tree" examples/avr.image
     run "$1" "$out/three.table" "$out/three.tree" examples/avr.image
     run "$1" data/avr.table "$out/avr.tree" "$out/three.image"           # three bytes
+    run "$1" data/avr.table "$out/avr.tree" "$out/long_odd.image"        # refused before anything is listed
     run "$1" "$out/early.table" "$out/three.tree" examples/avr.image
+    run "$1" "$out/long.table" "$out/three.tree" examples/avr.image
     run "$1" data/avr.table "$out/cut.tree" examples/avr.image
     run "$1" data/avr.table "$out/avr.tree" "$out"
 }
@@ -268,6 +357,7 @@ cache_runs() { # program
     run "$1" data/avr.table "$out/buoy.tree" examples/avr.image
     run "$1" "$out/three.table" "$out/three.tree" examples/avr.image
     run "$1" data/avr.table "$out/avr.tree" "$out/three.image"
+    run "$1" data/avr.table "$out/avr.tree" "$out/long.image"
     run "$1" "$out/early.table" "$out/three.tree" examples/avr.image
     run "$1" data/avr.table "$out/cut.tree" examples/avr.image
     run "$1" data/avr.table "$out/avr.tree" "$out"
@@ -285,13 +375,19 @@ operands_runs() { # program
     run "$1" data/a32.table 180 0xeafffffe
     run "$1" "$out/signed.table" 0 ffffffff
     run "$1" "$out/point.table" 0 80000000
+    run "$1" examples/worked.table 6 36
+    run "$1" examples/worked.table 6 136                                 # a bit above the width, 8
     run "$1" data/avr.table 97 0
     run "$1" data/avr.table 256 0
     run "$1" "$out/early.table" 0 0
     run "$1" /dev/null 0 0                                               # a table without words
     run "$1" data/avr.table 0 100000000                                  # more than 32 bits
     run "$1" data/avr.table -1 0
+    run "$1" data/avr.table 0 -1
     run "$1" data/avr.table 0x 0
+    run "$1" data/avr.table ' 0' 0
+    run "$1" data/avr.table '0 ' 0
+    run "$1" data/avr.table 0 0x
     run "$1" data/avr.table 0 ''
     run "$1" "$out/cut.tree" 0 0
     run "$1" data/avr.table 0
@@ -306,7 +402,7 @@ try_example() { # name; standard input: an edit a line, each of which makes one 
         sed "$edit" "examples/$1.c" > "$out/edited.c"
         changed=0
         cmp -s "examples/$1.c" "$out/edited.c" || changed=1
-        for header in files.h items.h cache.h; do
+        for header in files.h numbers.h refusals.h items.h parts.h cache.h; do
             sed "$edit" "examples/$header" > "$out/$header"
             cmp -s "examples/$header" "$out/$header" || changed=1
         done
@@ -326,24 +422,59 @@ s/account->unknown++/account->unknown/
 s/if (kilnumber_is_nothing(result))/if (0)/
 s/account->count\[entry\]++/account->count[entry] = 1/
 s/charge += its/charge = its/
-s/== KILNUMBER_HIGH_WORD/== 99/
+s/if (kilnumber_number(result) != 0) { /if (0) { /
+s/number == KILNUMBER_HIGH_WORD/number == 99/
 s/ended || account.refused != 0/ended/
-s/return number != 0;/return 0;/
-s/number == KILNUMBER_WRONG_TREE/number != 0/
+s/int ended = is_refused(kilnumber_check(.*/int ended = 0;/
+s/case KILNUMBER_WRONG_TREE/case 99/
 s/kilnumber_list_place(result)/kilnumber_place(result)/
+s/place == table.count/0/
 s/if (bytes.count % 4 != 0)/if (0)/
 s/if (image.count % size != 0)/if (0)/
-s/entry >= ENTRIES || account->has_current\[entry\]/entry >= ENTRIES/
+s/if (account->has_current\[entry\]) return.*//
+s/if (!skip_blanks(&line)) return.*//
+s/if (skip_blanks(&line)) return NULL;//
+s/KILNUMBER_MOST_ENTRIES - 1, &entry/KILNUMBER_MOST_ENTRIES, \&entry/
+s/10, MOST_CURRENT/10, 2000000000/
+s/digit == base || //
+s/ || taken > most//
+s/return text->at > from;/return 1;/
+s/ || byte == '\\r'//
+s/number++) {/number += 2) {/
 END
+
+# Without its check the simulator meets a damaged tree, and must charge nothing for it either.
+cat > "$out/unchecked.expected" <<'END'
+refused 9: byte 0: the word 00000004 meets a damaged tree
+refused 7: byte 1: the word 00000008 has a bit at or above the tree's width
+refused 9: byte 2: the word 00000000 meets a damaged tree
+total:            0 words           =            0 microampere cycles
+unknown words: 0
+refused words: 3
+status 1
+END
+cp examples/*.h "$out"
+sed 's/int ended = is_refused(kilnumber_check(.*/int ended = 0;/' examples/simulator.c > "$out/unchecked.c"
+build "$out/unchecked.c" "$out/unchecked"
+run "$out/unchecked" "$out/three.table" "$out/damaged.tree" "$out/seven.currents" "$out/three.image" > "$out/unchecked.seen"
+diff "$out/unchecked.expected" "$out/unchecked.seen" || { echo 'examples: simulator charges a walk that is refused'; exit 1; }
+echo 'simulator charges no walk that is refused'
+
 try_example lister <<'END'
-s/at + 1 < kilnumber_items(result) ? kilnumber_item_address(items\[at + 1\])/0 ? 0/
+s/kilnumber_item_address(items\[at + 1\])/kilnumber_item_address(items[at]) + 1/
 s/case KILNUMBER_CUT_OFF/case 99/
 s/case KILNUMBER_INSTRUCTION/case 98/
 s/return refused;/return 0;/
-s/size_t room = image.count \/ 2;/size_t room = image.count \/ 4;/
-s/number == KILNUMBER_BAD_IMAGE/number == 99/
+s/items, length \/ 2)/items, length \/ 4)/
+s/start = part.next;/start = image.count;/
+s/"%6zx:", start + 2 \* address/"%6zx:", 2 * address/
+s/part = image.at + start;/part = image.at;/
+s/most - left % 2/most/
+s/case KILNUMBER_BAD_IMAGE/case 99/
+s/case KILNUMBER_NO_IMAGE_TABLE/case 99/
+s/table.count > KILNUMBER_MOST_TABLE_WORDS/0/
 s/if (bytes.count % 4 != 0)/if (0)/
-s/image.at\[2 \* at + 1\], image.at\[2 \* at\]/image.at[2 * at], image.at[2 * at + 1]/
+s/part\[2 \* at + 1\], part\[2 \* at\]/part[2 * at], part[2 * at + 1]/
 END
 try_example cache <<'END'
 s/(word & slot->cover) == slot->key/slot->cover != 0/
@@ -360,7 +491,7 @@ s/ | half_at(image, address + 1)//
 s/if (2 \* address + 2 > image.count) return 0;/if (2 * address + 2 > image.count) return 0xffff;/
 s/image.at\[2 \* address\] |/image.at[2 * address + 1] |/
 s/count - cache.misses/count/
-s/int failed = kilnumber_number(result) != 0;/int failed = 0;/
+s/is_refused(result, table) || //
 s/return failed;/return 0;/
 s/if (bytes.count % 4 != 0)/if (0)/
 END
@@ -378,19 +509,23 @@ s/lowest = field >> 8 & 0xff/lowest = 0/
 s/kilnumber_text(field,/kilnumber_text(field \& 0xf000ffff,/
 s/(int)kilnumber_text_length(result)/2/
 s/text\[KILNUMBER_TEXT_ROOM\]/text[22]/
-s/number == KILNUMBER_NO_ENTRY/number != 0/
-s/return number != 0;/return 0;/
+s/case KILNUMBER_NO_ENTRY/case 99/
+s/int failed = is_refused(kilnumber_cycles(.*/int failed = 0;/
+s/if (!failed && is_too_wide(table, word)) stop.*//
 s/if (!failed) //
 s/return failed;/return 0;/
-s/ || number > 0xffffffff//
-s/ || \*end != '\\0'//
-s/end == text || //
-s/argument\[3\], 16/argument[3], 10/
+s/ || taken > most//
+s/ || text.at != text.end//
+s/digit == base || //
+s/return text->at > from;/return 1;/
+s/text.at += 2;/;/
+s/, 16, "word"/, 10, "word"/
+s/place == table.count/0/
 s/if (bytes.count % 4 != 0)/if (0)/
 END
 
 # The cache's program must tell of a cache that is wrong: a slot that any word hits.
-cp examples/cache.c examples/files.h examples/items.h "$out"
+cp examples/cache.c examples/*.h "$out"
 sed 's/(word & slot->cover) == slot->key/slot->cover != 0/' examples/cache.h > "$out/cache.h"
 gcc -std=c11 -O0 -Iinclude "$out/cache.c" "$library" -o "$out/edited"
 run "$out/edited" data/avr.table "$out/avr.tree" examples/avr.image > "$out/edited.seen"

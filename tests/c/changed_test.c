@@ -2,8 +2,8 @@
  * Compares kilnumber_changed with the second implementation's answers. Usage: changed_test file, which make_changes.py writes.
  * It prints one line with the counts; at the first difference it prints both results and exits with status 1.
  *
- * With -DSTAND_IN there is no library: kilnumber_changed then counts by the file's marks, and with -DWRONG=1 and so on it is wrong in
- * one way, to show that the test notices.
+ * With -DSTAND_IN there is no library: kilnumber_changed then counts by the file's marks, and with WRONG=1 and so on in the environment it
+ * is wrong in one way, to show that the test notices.
  *
  * Table and list lie directly before a page that can't be touched, and then directly after one. They must be the same afterwards.
  */
@@ -40,9 +40,7 @@ static int is_unfit(uint32_t mark) { return before(mark) >= AMBIGUOUS; }
 /* ------------------------------------------------------------------------- stand-in for the library */
 
 #ifdef STAND_IN
-#ifndef WRONG
-#define WRONG 0
-#endif
+#include "wrong.h"
 static struct question standing;
 
 static int is_again(size_t at) {

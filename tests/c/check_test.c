@@ -2,7 +2,7 @@
  * Compares kilnumber_check with the second implementation's answers. Usage: check_test file, which make_checks.py writes.
  * It prints one line with the counts; at the first difference it prints both results and exits with status 1.
  *
- * With -DSTAND_IN there is no library: kilnumber_check then gives back what the file has, and with -DWRONG=1 and so on that answer
+ * With -DSTAND_IN there is no library: kilnumber_check then gives back what the file has, and with WRONG=1 and so on in the environment that answer
  * wrong in one way, to show that the test notices.
  *
  * Table and tree lie directly before a page that can't be touched. They must be the same afterwards.
@@ -23,9 +23,7 @@
 /* ------------------------------------------------------------------------- stand-in for the library */
 
 #ifdef STAND_IN
-#ifndef WRONG
-#define WRONG 0
-#endif
+#include "wrong.h"
 static uint32_t standing_number, standing_place;
 
 uint64_t kilnumber_check(const uint32_t *table, size_t table_words, const uint32_t *tree, size_t tree_words) {

@@ -1,10 +1,10 @@
 /*
- * The last halfword of an image (document 02's No. 6): kilnumber_list against the library's own walks of all 65,536 words that the halfword
- * begins. Usage: halves_test file, which make_halves.py writes. The halfword is listed by itself, and after two others.
+ * The last halfword of an image (document 02's No. 6): kilnumber_list against the walks of all 65,536 words that the halfword begins, by the
+ * walker in C (walker.h). Usage: halves_test file, which make_halves.py writes. The halfword is listed by itself, and after two others.
  * It prints one line with the counts; at the first difference it prints both items and exits with status 1.
  *
- * With -DSTAND_IN there is no library: kilnumber_walk is then the walk of walker.h, and kilnumber_list descends the tree; with -DWRONG=1
- * and so on it is wrong in one way, to show that the test notices.
+ * With -DSTAND_IN there is no library: kilnumber_list then descends the tree; with WRONG=1 and so on in the environment it is wrong in one
+ * way, to show that the test notices.
  *
  * Everything lent lies directly before a page that can't be touched. Table, tree and image must be the same afterwards.
  */
@@ -19,31 +19,18 @@
 #include "words_file.h"
 
 #include "lending.h"
+#include "lister.h"
 
 #define MOST_HALVES 3u
 #define ROOM (MOST_HALVES + 1)
 #define MARK 0x5eed5eedu
-#define NOTHING 256u
-#define SEVERAL 257u
-
-struct table {
-    const uint32_t *words, *tree, *lengths;
-    size_t count, nodes, entries; /* nodes: words of the tree */
-};
-
-static uint32_t item_of(uint32_t kind, uint32_t entry, size_t address) { return kind << 28 | entry << 20 | (uint32_t)address; }
 
 /* ------------------------------------------------------------------------- stand-in for the library */
 
 #ifdef STAND_IN
-#ifndef WRONG
-#define WRONG 0
-#endif
-#include "walker.h"
+#include "wrong.h"
 
 static const struct table *standing;
-
-uint64_t kilnumber_walk(const uint8_t *tree, size_t length, uint32_t word) { return packed(walk(tree, length, word)); }
 
 static uint32_t both(uint32_t zero, uint32_t one) {
     if (WRONG == 1) return zero;                                                            /* 1: zeros below decide */
@@ -110,32 +97,7 @@ uint64_t kilnumber_list(const uint32_t *table, size_t table_words, const uint32_
 /* ------------------------------------------------------------------------- what must be listed */
 
 static struct room table_room, tree_room, image_room, items_room;
-static uint64_t walks, full_items, by_kind[15], with_zeros_below[15]; /* the last: another kind than the walk of zeros below has */
-
-static uint32_t named_by(const struct table *table, uint32_t word) {
-    uint64_t result = kilnumber_walk_words(table->tree, table->nodes, word);
-    if (kilnumber_number(result) != 0) stop("a tree of the file is refused");
-    walks++;
-    return kilnumber_is_nothing(result) ? NOTHING : kilnumber_entry(result);
-}
-
-/* "With the lower half missing, the item is now kind 12 exactly if all 65,536 lower halves select the same entry of length 16, kind 13 if
- * all of them select nothing, and kind 14 otherwise." */
-static uint32_t kind_of(const struct table *table, uint32_t named) {
-    if (named == SEVERAL) return 14;
-    if (named == NOTHING) return 13;
-    return table->lengths[named] == 16 ? 12 : 14;
-}
-
-/* What the walks of all words with this upper half name, if they name the same. */
-static uint32_t named_by_all(const struct table *table, uint32_t upper) {
-    uint32_t first = named_by(table, upper << 16), named = first;
-    for (uint32_t lower = 1; lower < 65536; lower++)
-        if (named_by(table, upper << 16 | lower) != first) named = SEVERAL;
-    by_kind[kind_of(table, named)]++;
-    with_zeros_below[kind_of(table, first)] += kind_of(table, named) != kind_of(table, first);
-    return named;
-}
+static uint64_t full_items, by_kind[15], with_zeros_below[15]; /* the last: another kind than the walk of zeros below has */
 
 struct wanted {
     uint32_t items[ROOM];
@@ -143,77 +105,66 @@ struct wanted {
 };
 
 /* The items of the image whose last halfword names `last` by all walks. */
-static struct wanted wanted_of(const struct table *table, const uint32_t *halves, size_t count, uint32_t last) {
+static struct wanted wanted_of(const struct table *table, const uint8_t *image, size_t halves, uint32_t last) {
     struct wanted wanted = {{0}, 0, {0}};
-    for (size_t address = 0; address < count; wanted.count++) {
+    for (size_t address = 0; address < halves; wanted.count++) {
+        struct item item = item_at(table, image, halves, address, last);
         wanted.addresses[wanted.count] = address;
-        if (address + 1 == count) {
-            uint32_t kind = kind_of(table, last);
-            wanted.items[wanted.count] = item_of(kind, kind == 12 ? last : 0, address++);
-            continue;
-        }
-        uint32_t named = named_by(table, halves[address] << 16 | halves[address + 1]); /* "full words read as before" */
-        wanted.items[wanted.count] = named == NOTHING ? item_of(13, 0, address) : item_of(12, named, address);
-        address += named == NOTHING ? 1 : table->lengths[named] / 16;
-        full_items++;
+        wanted.items[wanted.count] = item_word(item, address);
+        full_items += address + 1 < halves;
+        address = item.next;
     }
     return wanted;
 }
 
 /* ------------------------------------------------------------------------- the comparison */
 
-static void differs(const char *what, const struct table *table, const uint32_t *halves, size_t count, uint64_t expected, uint64_t seen) {
+static void differs(const char *what, const struct table *table, const uint8_t *bytes, size_t halves, uint64_t expected, uint64_t seen) {
     printf("difference: %s: halfwords", what);
-    for (size_t at = 0; at < count; at++) printf(" %04x", (unsigned)halves[at]);
+    for (size_t at = 0; at < halves; at++) printf(" %04x", (unsigned)half_at(bytes, at));
     printf(": expected %016llx, seen %016llx; the table:", (unsigned long long)expected, (unsigned long long)seen);
     for (size_t at = 0; at < table->count; at++) printf(" %08x", (unsigned)table->words[at]);
     printf("\n");
     exit(1);
 }
 
-static void compare(const struct table *table, const uint32_t *halves, size_t count, struct wanted wanted, size_t room) {
+static void compare(const struct table *table, const uint8_t *bytes, size_t halves, struct wanted wanted, size_t room) {
     static const uint32_t marked[ROOM] = {MARK, MARK, MARK, MARK};
-    uint8_t bytes[2 * MOST_HALVES];
-    for (size_t at = 0; at < count; at++) bytes[2 * at] = (uint8_t)halves[at], bytes[2 * at + 1] = (uint8_t)(halves[at] >> 8);
     const uint32_t *words = lend(table_room, table->words, table->count, 0), *tree = lend(tree_room, table->tree, table->nodes, 0);
-    uint8_t *image = lend_bytes(image_room, bytes, 2 * count, 0);
+    uint8_t *image = lend_bytes(image_room, bytes, 2 * halves, 0);
     uint32_t *items = (uint32_t *)(void *)lend_bytes(items_room, marked, 4 * room, 0);
     uint64_t expected = room < wanted.count ? (uint64_t)17 << 32 | wanted.addresses[room] : wanted.count;
-    uint64_t seen = kilnumber_list(words, table->count, tree, table->nodes, image, 2 * count, items, room);
-    if (seen != expected) differs("a listing", table, halves, count, expected, seen);
+    uint64_t seen = kilnumber_list(words, table->count, tree, table->nodes, image, 2 * halves, items, room);
+    if (seen != expected) differs("a listing", table, bytes, halves, expected, seen);
     for (size_t at = 0; at < room; at++)
         if (items[at] != (at < wanted.count ? wanted.items[at] : MARK))
-            differs(at < wanted.count ? "an item" : "a word after the items", table, halves, count, wanted.items[at], items[at]);
+            differs(at < wanted.count ? "an item" : "a word after the items", table, bytes, halves, wanted.items[at], items[at]);
     require_unchanged(words, table->words, table->count);
     require_unchanged(tree, table->tree, table->nodes);
-    if (memcmp(image, bytes, 2 * count) != 0) differs("the image has changed", table, halves, count, 0, 0);
+    if (memcmp(image, bytes, 2 * halves) != 0) differs("the image has changed", table, bytes, halves, 0, 0);
 }
 
 /* Room for a word more than the items, for all but the last, and for none. */
-static void try_image(const struct table *table, const uint32_t *halves, size_t count, uint32_t last) {
-    struct wanted wanted = wanted_of(table, halves, count, last);
-    compare(table, halves, count, wanted, wanted.count + 1);
-    compare(table, halves, count, wanted, wanted.count - 1);
-    compare(table, halves, count, wanted, 0);
+static void try_image(const struct table *table, const uint32_t *half, size_t halves, uint32_t last) {
+    uint8_t bytes[2 * MOST_HALVES];
+    for (size_t at = 0; at < halves; at++) bytes[2 * at] = (uint8_t)half[at], bytes[2 * at + 1] = (uint8_t)(half[at] >> 8);
+    struct wanted wanted = wanted_of(table, bytes, halves, last);
+    compare(table, bytes, halves, wanted, wanted.count + 1);
+    compare(table, bytes, halves, wanted, wanted.count - 1);
+    compare(table, bytes, halves, wanted, 0);
 }
 
 static void try_upper(const struct table *table, uint32_t upper, uint32_t drawn) {
     uint32_t three[MOST_HALVES] = {drawn & 0xffff, drawn >> 16, upper}, last = named_by_all(table, upper);
+    uint32_t kind = last_kind(table, last), of_zeros = last_kind(table, named_by(table, upper << 16));
+    by_kind[kind]++;
+    with_zeros_below[of_zeros] += kind != of_zeros;
     try_image(table, &upper, 1, last);
     try_image(table, three, 3, last);
     /* The halfword twice and once more: a full word that has it for its upper half, and the last one. */
     three[0] = three[1] = upper;
     try_image(table, three, 3, last);
     try_image(table, three + 1, 2, last);
-}
-
-/* A run of the file: how many words, then the words. */
-static const uint32_t *run_at(const uint32_t *words, size_t count, size_t *at, size_t *length) {
-    if (*at >= count || words[*at] > MOST_WORDS || *at + 1 + words[*at] > count) stop("the file is not whole");
-    const uint32_t *run = words + *at + 1;
-    *length = words[*at];
-    *at += 1 + *length;
-    return run;
 }
 
 int main(int arguments, char **argument) {
@@ -225,10 +176,7 @@ int main(int arguments, char **argument) {
     image_room = make_room();
     items_room = make_room();
     for (uint32_t turn = 0; turn < words[0]; turn++) {
-        struct table table;
-        table.words = run_at(words, count, &at, &table.count);
-        table.tree = run_at(words, count, &at, &table.nodes);
-        table.lengths = run_at(words, count, &at, &table.entries);
+        struct table table = table_at(words, count, &at);
         const uint32_t *upper = run_at(words, count, &at, &uppers);
 #ifdef STAND_IN
         standing = &table;

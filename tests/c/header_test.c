@@ -165,6 +165,36 @@ static void withdrawals(void) {
     expect("a count of 56 bits", kilnumber_changed_words(0xabcdef0089abcdef), 0xabcdef89abcdef);
 }
 
+/* The limits, at them and one over: 256 entries `-` of width 1, an entry of 8 fields, an image of zeros. */
+static void limits(const uint32_t *tree) {
+    static uint32_t words[1 + 4 * 257], items[1];
+    static uint8_t image[2097154];
+    uint32_t fields[13] = {0x10010009, 0x20000980, 0x100, 0};
+    expect("the most words of a table", KILNUMBER_MOST_TABLE_WORDS, 16384);
+    expect("the most words of a tree", KILNUMBER_MOST_TREE_WORDS, 16384);
+    expect("the most entries", KILNUMBER_MOST_ENTRIES, 256);
+    expect("the most fields", KILNUMBER_MOST_FIELDS, 8);
+    expect("the most bytes of an image", KILNUMBER_MOST_IMAGE_BYTES, 2097152);
+    for (uint32_t entry = 0; entry < 257; entry++) words[1 + 4 * entry] = 0x20000110, words[4 + 4 * entry] = 0x30000001;
+    words[0] = 0x10000001 | KILNUMBER_MOST_ENTRIES << 16;
+    expect("as many entries", kilnumber_number(kilnumber_cycles(words, 1 + 4 * KILNUMBER_MOST_ENTRIES, 255)), 0);
+    words[0] += 1 << 16;
+    expect("an entry more", kilnumber_number(kilnumber_cycles(words, 1 + 4 * 257, 0)), KILNUMBER_TABLE_START);
+    for (uint32_t field = 0; field < 8; field++) fields[4 + field] = 0x30000001 | field << 8;
+    expect("as many fields", kilnumber_number(kilnumber_cycles(fields, 4 + KILNUMBER_MOST_FIELDS, 0)), 0);
+    fields[1] += 0x10;
+    expect("a field more", kilnumber_number(kilnumber_cycles(fields, 13, 0)), KILNUMBER_TABLE_WORD);
+    expect("as many bytes", kilnumber_number(kilnumber_list(table, 9, tree, TREE_WORDS, image, KILNUMBER_MOST_IMAGE_BYTES, items, 1)), 17);
+    expect("two bytes more", kilnumber_number(kilnumber_list(table, 9, tree, TREE_WORDS, image, KILNUMBER_MOST_IMAGE_BYTES + 2, items, 1)), 16);
+}
+
+/* A table as long as may be, and a word longer: no entries, and words left over. */
+static void longest_table(void) {
+    static uint32_t words[16385] = {0x10000001};
+    expect("as many words", kilnumber_cycles(words, KILNUMBER_MOST_TABLE_WORDS, 0), (uint64_t)KILNUMBER_TABLE_WORD << 32 | 1);
+    expect("a word more", kilnumber_cycles(words, KILNUMBER_MOST_TABLE_WORDS + 1, 0), (uint64_t)KILNUMBER_TABLE_START << 32);
+}
+
 /* Fields by themselves. Plain, signed and fixed point with 16 fraction bits, each of 32 bits; of eight bits, four of them after the point;
  * a spare bit, and a form that there is not. */
 static const uint32_t plain = 0x30000020, two_s = 0x31000020, point = 0x32100020, gain = 0x32040008;
@@ -214,6 +244,8 @@ int main(void) {
     list(tree);
     cycles(tree);
     withdrawals();
+    limits(tree);
+    longest_table();
     whole_numbers();
     texts();
     printf("header good: %u compared\n", compared);

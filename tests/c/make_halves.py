@@ -1,4 +1,4 @@
-"""Writes tables with their trees and upper halves for halves_test.c, made with the second implementation.
+"""Writes tables with their trees and upper halves for halves_test.c and parts_test.c, made with the second implementation.
 
 Usage: make_halves.py file. 32-bit words, low byte first: how many tables, then for each the table, its tree, its entries' lengths and the
 upper halves as runs (how many words, then the words).

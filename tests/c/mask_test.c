@@ -8,13 +8,14 @@
  *
  *   gcc -std=c11 -O2 -Wall -Wextra -fsanitize=address,undefined -Iinclude tests/c/mask_test.c libkilnumber.a -o mask_test
  *
- * With -DSTAND_IN there is no library; with -DWRONG=1 and so on the mask in its place (wrong_mask.h) is wrong in one way.
+ * With -DSTAND_IN there is no library; with WRONG=1 and so on in the environment the mask in its place (wrong_mask.h) is wrong in one way.
  */
 
 #include "kilnumber.h"
 #include "trees.h"
 
 #ifdef STAND_IN
+#include "wrong.h"
 #define WRONG_MASK WRONG
 #include "wrong_mask.h"
 

@@ -3,7 +3,7 @@
  * which make_numbers.py writes. It prints one line with the counts; at the first difference it prints both results and exits with
  * status 1.
  *
- * With -DSTAND_IN there is no library, but the three calls written here, and with -DWRONG=1 and so on wrong in one way, to show that
+ * With -DSTAND_IN there is no library, but the three calls written here, and with WRONG=1 and so on in the environment wrong in one way, to show that
  * the test notices.
  *
  * The buffer for a text lies directly before a page that can't be touched, and then directly after one. It is compared as a whole.
@@ -30,9 +30,7 @@ static uint64_t refused(uint64_t number) { return number << 32; }
 /* ------------------------------------------------------------------------- stand-in for the library */
 
 #ifdef STAND_IN
-#ifndef WRONG
-#define WRONG 0
-#endif
+#include "wrong.h"
 
 static uint32_t form_of(uint32_t field) { return field >> 24 & 15; }
 static uint32_t fraction_of(uint32_t field) { return field >> 16 & 0xff; }

@@ -7,7 +7,7 @@
  *
  *   gcc -std=c11 -O2 -Wall -Wextra -fsanitize=address,undefined -Iinclude tests/c/walk_test.c libkilnumber.a -o walk_test
  *
- * With -DSTAND_IN there is no library: the two calls are then copies of that walker, and with -DWRONG=1 and so on one of them is
+ * With -DSTAND_IN there is no library: the two calls are then copies of that walker, and with WRONG=1 and so on in the environment one of them is
  * wrong in one way, to show that the test notices: 1 to 18 the walk here, from 19 on the mask in wrong_mask.h.
  *
  * Every tree lies directly before a page that can't be read, so a library that reads past the end breaks off, although
@@ -26,9 +26,7 @@
 /* ------------------------------------------------------------------------- stand-in for the library */
 
 #ifdef STAND_IN
-#ifndef WRONG
-#define WRONG 0
-#endif
+#include "wrong.h"
 #define WRONG_MASK (WRONG - 18)
 #include "wrong_mask.h"
 

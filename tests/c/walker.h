@@ -1,4 +1,4 @@
-/* The walk of a tree, written from documents 01 and 02 alone, for the tests of the walk and of the mask. */
+/* The walk of a tree, written from documents 01 and 02 alone, for the tests of the walk, of the mask and of listings. */
 
 #ifndef WALKER_H
 #define WALKER_H

@@ -1461,6 +1461,9 @@ CONDITIONS_APART_TREE = table("70030007 81000005 80000004 90000000 90000001 8000
 CONDITIONS_APART_BACKWARDS = table("10020003 20010312 00000000 00000000 30000003 40000000 00000005 00000005 40000000 00000001 00000000 "
                                    "20000311 00000000 00000000 30000003 40000000 00000001 00000001")
 CONDITIONS_APART_BACKWARDS_TREE = table("70030007 81000005 80000004 90000001 90000000 80000007 90000001 a0000000")
+# The entries of SHORT_OR_LONG exchanged, and its tree.
+LONG_OR_SHORT = (table("10020020 20012010 c0000000 80000000 3000001e 20001010 80000000 00000000 3000100f"),
+                 table("70200005 8f800003 90000001 8f000005 90000000 a0000000"))
 
 # (table, order, the reordered table): entry e of the table is the entry of the reordered one that the order has at e.
 REORDERED = [
@@ -1471,6 +1474,7 @@ REORDERED = [
     (COVERED_CYCLES, [1, 2, 0], COVERED_CYCLES_ROTATED),
     (TWICE_ZERO_FIRST, [2, 3, 0, 1], TWICE_ONE_FIRST),
     (CONDITIONS_APART, [1, 0], CONDITIONS_APART_BACKWARDS),
+    (SHORT_OR_LONG, [1, 0], LONG_OR_SHORT[0]),
 ]
 
 # (what it shows, the question, the line)
@@ -1502,4 +1506,30 @@ SHUFFLE_EXAMPLES = [
       for number, length in ((6, 4), (5, 3))),
     ("twice 1, twice 0, word 1", lookup(TWICE_ONE_FIRST, 1), "2 6 0 00000001"),
     ("twice 1, twice 0, word 0", lookup(TWICE_ONE_FIRST, 0), "2 6 0 00000000"),
+
+    # Trees with their leaves renumbered, and not.
+    ("the worked table backwards, its tree", check(WORKED_BACKWARDS, WORKED_BACKWARDS_TREE), ACCEPTED),
+    ("the worked table backwards, the tree as it was", check(WORKED_BACKWARDS, WORKED_TREE), SAYS_NO),
+    ("the worked table, the tree backwards", check(WORKED, WORKED_BACKWARDS_TREE), SAYS_NO),
+    ("0-0 added, the second first, its tree", check(LOW_FIRST, LOW_FIRST_TREE), ACCEPTED),
+    ("0-0 added, the second first, the tree as it was", check(LOW_FIRST, WITH_THIRD_TREE), SAYS_NO),
+    ("the entries exchanged, the tree as it was", check(LONG_OR_SHORT[0], SHORT_OR_LONG_TREE), SAYS_NO),
+
+    # The items of IMAGE_EXAMPLES: kind 12 names the other entry, and kinds 13 and 14 stay.
+    ("the entries exchanged, six halfwords, 7 words", listing(*LONG_OR_SHORT, SIX_HALVES, 7),
+     "9 0 0 00000000 5 | c0100000 c0000001 d0000003 c0100004 e0000005 66666666 77777777"),
+    ("the entries exchanged, six halfwords, 2 words", listing(*LONG_OR_SHORT, SIX_HALVES, 2), "9 17 3 00000000 | c0100000 c0000001"),
+    ("the entries exchanged, the tree as it was, listed", listing(LONG_OR_SHORT[0], SHORT_OR_LONG_TREE, SIX_HALVES, 2),
+     "9 14 0 00000000 | 11111111 22222222"),
+    *((f"the entries exchanged, a step at {address}", step(*LONG_OR_SHORT, SIX_HALVES, address), f"8 0 0 00000000 {said}")
+      for address, said in enumerate(["c0100000 1 80000000", "c0000001 3 c0000000", "c0100002 3 80000000", "d0000003 4 c0000000",
+                                      "c0100004 5 80000000", "e0000005 6 c0000000", "end"])),
+
+    # The counts of WITHDRAWAL_EXAMPLES, with the entries.
+    *counts("all words of the worked table backwards", WORKED_BACKWARDS, list(range(256)), [32, 4, 4, 16, 16, 48, 40]),
+    *counts("0-0 added, the second first, word 1", LOW_FIRST, [1], [0, 1, 0]),
+    *counts("0-0 added, the second first, word 6", LOW_FIRST, [6], [1, 0, 0]),
+    ("the worked table backwards, entry 7 withdrawn", changed(WORKED_BACKWARDS, 7, MARKED_WORDS), NO_SUCH_WITHDRAWN),
+    *((f"twice 1, twice 0, ambiguous, entry {entry} withdrawn", changed(TWICE_ONE_FIRST, entry, [1, 0]), "22 6 0 00000001")
+      for entry in range(4)),
 ]

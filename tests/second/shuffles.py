@@ -6,12 +6,16 @@ reordered table was entry from[n] of the table. Nothing here uses the second imp
 
 from math import factorial
 
+from second.tables import with_bits
 from second.twins import spans
 
 OPEN = "?"              # stands for the place of 19: "though the lowest entry may differ"
 NAMING = ("2", "5")     # lookup and decode: an entry, or nothing
 GENERATE = "3"
-TAKING = ("encode", "cycles")   # calls that are asked about an entry
+STEP, LIST = "8", "9"   # with items
+LEAF = 9 << 20          # bits 31-8 of a tree word that names an entry: kind 9, and no spare bit
+TAKING = ("encode", "cycles", "changed")    # calls that are asked about an entry
+CHECKING = ("check", "step", "list")        # calls that are given a tree, which they check
 
 
 # ---------------------------------------------------------------------------- orders
@@ -71,12 +75,24 @@ def moved_entry(entry, to):
     return to[entry] if entry < len(to) else entry
 
 
+def moved_word(word, to):
+    """What a tree word becomes: a leaf names the moved entry, every other word stays, also one of kind 9 that is damaged."""
+    return LEAF << 8 | moved_entry(word & 0xFF, to) if word >> 8 == LEAF else word
+
+
+def names_only(tree, count):
+    """Whether the leaves of a tree, whoever made it, name only entries of a table that has so many."""
+    return all(word & 0xFF < count for word in tree if word >> 8 == LEAF)
+
+
 def moved_question(question, words, to):
     """The same question about the reordered table, which has these words; a call that is asked about an entry is asked about the moved
-    one."""
+    one, and one that is given a tree is given it with the leaves renumbered."""
     name, _, *rest = question
     if name in TAKING:
         rest[0] = moved_entry(rest[0], to)
+    if name in CHECKING:
+        rest[0] = [moved_word(word, to) for word in rest[0]]
     return name, words, *rest
 
 
@@ -105,17 +121,35 @@ def opened_like(expected, seen):
     return place_left_open(seen) if place_in(expected) == OPEN else seen
 
 
-def moved_word(word, to):
-    """What a tree word becomes: kind 9 names the moved entry, every other word stays."""
-    return word & ~0xFF | moved_entry(word & 0xFF, to) if word >> 28 == 9 else word
+def moved_item(item, to, kinds=(12,)):
+    """What an item becomes: kind 12 names the moved entry, every other one stays."""
+    return with_bits(item, 27, 20, moved_entry(item >> 20 & 0xFF, to)) if item >> 28 in kinds else item
 
 
-def with_tree(line, change, lent):
-    """The line of generating with each tree word changed, and after the tree the words of this buffer."""
+def written_in(line):
+    """The words that generating or listing wrote to its buffer: a tree, or items. 17 fills it with items, another refusal leaves none."""
     front, _, back = line.partition(" |")
-    length = int(front.split(" ")[4])
-    tree = [change(int(word, 16)) for word in back.split()[:length]]
-    return " ".join([front, "|", *(f"{word:08x}" for word in [*tree, *lent[length:]])])
+    words = [int(word, 16) for word in back.split()]
+    if number_in(line) == "17":
+        return words
+    return words[:int(front.split(" ")[4])] if number_in(line) == "0" else []
+
+
+def with_written(line, change, lent):
+    """The line of generating or listing with each word of the tree, or each item, changed, and after them the words of this buffer."""
+    written = [change(word) for word in written_in(line)]
+    return " ".join([line.partition(" |")[0], "|", *(f"{word:08x}" for word in [*written, *lent[len(written):]])])
+
+
+def with_item(line, change):
+    """The line of a step with another item; the end stays the end, and a refusal a refusal."""
+    *front, item, following, mask = line.split(" ")
+    return " ".join([*front, f"{change(int(item, 16)):08x}", following, mask]) if len(front) == 4 else line
+
+
+def with_items(line, change, lent):
+    """The line of a step or of listing."""
+    return with_item(line, change) if line.split(" ", 1)[0] == STEP else with_written(line, change, lent)
 
 
 def with_named(line, change):
@@ -126,17 +160,19 @@ def with_named(line, change):
 
 
 def moved_line(line, to, lent=()):
-    """The line for the reordered table, from the one for the table and the order alone: of lookup, generate, measure, decode, encode or
-    cycles. For generate `lent` is the buffer lent for the reordered table, as long as the other. A refusal stays, but for the place of
-    19."""
+    """The line for the reordered table, from the one for the table and the order alone. For generate and list `lent` is the buffer lent for
+    the reordered table, as long as the other. A refusal stays, but for the place of 19; with 17 the buffer has the moved items, and after
+    any other refusal of list it is as it was lent."""
     request, number, _ = line.split(" ", 2)
+    if request in (STEP, LIST):
+        return with_items(line, lambda item: moved_item(item, to), lent)
     if number != "0":
         return place_left_open(line)
     if request == GENERATE:
-        return with_tree(line, lambda word: moved_word(word, to), lent)
+        return with_written(line, lambda word: moved_word(word, to), lent)
     if request in NAMING:
         return with_named(line, lambda entry: moved_entry(entry, to))
-    # A size, a word made or an entry's cycles.
+    # A size, a word made, an entry's cycles, a tree that is accepted or how many words change.
     return line
 
 

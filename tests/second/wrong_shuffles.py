@@ -1,17 +1,19 @@
 """Mistakes with the order of entries. A test must notice each.
 
-Each of WRONG_PROGRAMS is (module, name, mistake): the mistake is to be put in the place of that function of the second implementation, and
-stands on the right one, which is kept here. What it answers depends on the order of the entries, or doesn't move with them. Each of
-WRONG_LINES is to be put in the place of shuffles.moved_line, each of WRONG_QUESTIONS in the place of shuffles.moved_question, each of
-WRONG_TABLES in the place of shuffles.reordered: what is then expected, or asked, is wrong.
+Each of WRONG_PROGRAMS is (module or class, name, mistake): the mistake is to be put in the place of that function of the second
+implementation, and stands on the right one, which is kept here. What it answers depends on the order of the entries, or doesn't move with
+them. Each of WRONG_LINES is (mistake, calls): the mistake is to be put in the place of shuffles.moved_line, and each of the calls must show
+it. Each of WRONG_QUESTIONS is to be put in the place of shuffles.moved_question, each of WRONG_TABLES in the place of shuffles.reordered.
+What is then expected, or asked, is wrong.
 """
 
-from second import cost, measure, selection, shuffles, tree, wrong_cycles, wrong_reach
+from second import checker, cost, halves, image, measure, selection, shuffles, tree, walk, withdrawal, wrong_cycles, wrong_halves, \
+    wrong_reach, wrong_withdrawal
 from second.reader import Refusal, ones
 from second.selection import AMBIGUOUS, NOTHING, claims, field_value, more_specific, read_once
-from second.shuffles import from_of, moved_entry, number_in, place_in
+from second.shuffles import from_of, moved_entry, moved_item, number_in, place_in
 from second.tables import WITH_CYCLES
-from second.tree import DEAD, Conflict, Names, entry_status, unnamed_entries
+from second.tree import DEAD, SURE, Conflict, Names, entry_status, unnamed_entries
 from second.twins import cycles_of, heads_in, kind_of
 
 RIGHT_SELECT = selection.select
@@ -22,6 +24,11 @@ RIGHT_BY_LEAVES = tree.refusal_by_leaves
 RIGHT_REFUSAL = tree.refusal_of
 RIGHT_GENERATE = tree.generate
 RIGHT_MEASURE = measure.measure
+RIGHT_STEP = checker.first_step
+RIGHT_NAMED = checker.named_right
+RIGHT_OF = image.Selecting.of
+RIGHT_CHANGED = withdrawal.changed
+RIGHT_BEFORE = withdrawal.answers_before
 RIGHT_LINE = shuffles.moved_line
 RIGHT_QUESTION = shuffles.moved_question
 RIGHT_REORDERED = shuffles.reordered
@@ -208,6 +215,79 @@ def later_not_compared(words, entry, values):
     return outcome.word if answer not in (NOTHING, AMBIGUOUS) and answer > entry else outcome
 
 
+# ---------------------------------------------------------------------------- in the place of functions of checker
+
+def first_sure(table, cell):
+    """Mistake: a leaf must name the first entry that is sure in its cell, more specific than the others or not."""
+    status = [entry_status(cell, entry)[0] for entry in table.entries]
+    return status.index(SURE) if SURE in status else RIGHT_STEP(table, cell)
+
+
+def leaves_rise(steps, placed):
+    """Mistake: leaves that name entries in falling order are not accepted."""
+    entries = [checker.named(node) for node, _ in placed if checker.kind(node) == checker.NAMES]
+    return entries == sorted(entries) and RIGHT_NAMED(steps, placed)
+
+
+def last_not_judged(steps, placed):
+    """Mistake: every leaf that names the last entry counts as right."""
+    last = len(steps.table.entries) - 1
+    return RIGHT_NAMED(steps, [(node, cell) for node, cell in placed if checker.named(node) != last])
+
+
+def first_dead_is_enough(steps, placed):
+    """Mistake: nothing is right where the first entry is dead."""
+    return all(entry_status(cell, steps.table.entries[0])[0] == DEAD for node, cell in placed if checker.kind(node) == checker.NOTHING)
+
+
+# ---------------------------------------------------------------------------- in the place of functions of image and halves
+
+def item_of_first_claiming(selecting, word):
+    """Mistake: an item names the first entry that claims its word."""
+    return first_claiming(selecting.table, word)
+
+
+def item_of_same_label(selecting, word):
+    """Mistake: an item names the first entry with the label of its own."""
+    answer, labels = RIGHT_OF(selecting, word), [entry.label for entry in selecting.table.entries]
+    return answer if answer == NOTHING else labels.index(labels[answer])
+
+
+def length_of_first(selecting, entry):
+    """Mistake: the next address is on by the length of the first entry."""
+    return selecting.table.entries[0].length
+
+
+def length_of_next(selecting, entry):
+    """Mistake: the next address is on by the length of the entry behind the selected one."""
+    return selecting.table.entries[(entry + 1) % len(selecting.table.entries)].length
+
+
+def first_decides_last(table, upper):
+    """Mistake: at the last halfword the first entry that claims it with some lower half decides."""
+    some = [number for number, entry in enumerate(table.entries) if halves.claiming(upper, entry)]
+    return wrong_halves.kind_of(table, {*some[:1]} or {NOTHING})
+
+
+def first_without_mask(tree_words, image_halves, address):
+    """Mistake: entry 0 is taken for a walk that is refused, and its items have no mask."""
+    walked = walk.walk(tree_words, image.word_at(image_halves, address))
+    return 0 if walked.names == 0 else walked.mask
+
+
+# ---------------------------------------------------------------------------- in the place of functions of withdrawal
+
+def one_before(words, entry, listed):
+    """Mistake: the entry before the one asked for is withdrawn, if there is one."""
+    return RIGHT_CHANGED(words, max(entry - 1, 0), listed)
+
+
+def equals_taken(table, listed):
+    """Mistake: a word of equally specific entries is no unfit word, and the first of them is what it selects."""
+    before = RIGHT_BEFORE(table, listed)
+    return [first_of_equals(table, word) for word in listed] if is_number(before, 6) else before
+
+
 WRONG_PROGRAMS = (
     *((selection, "select", wrong) for wrong in (first_of_equals, last_of_equals, first_claiming, earlier_not_compared)),
     *((tree, "chosen_bit", wrong) for wrong in (tie_by_first_entry, first_mask_alone, first_condition_alone)),
@@ -220,6 +300,15 @@ WRONG_PROGRAMS = (
     (selection, "decode", fields_of_first),
     (selection, "encode", later_not_compared),
     *((cost, "cycles", wrong) for wrong in (wrong_cycles.first_for_all, wrong_cycles.next_entry)),
+    (checker, "first_step", first_sure),
+    *((checker, "named_right", wrong) for wrong in (leaves_rise, last_not_judged)),
+    (checker, "nothing_right", first_dead_is_enough),
+    *((image.Selecting, "of", wrong) for wrong in (item_of_first_claiming, item_of_same_label)),
+    *((image.Selecting, "length", wrong) for wrong in (length_of_first, length_of_next)),
+    (halves, "kind_and_entry", first_decides_last),
+    (image, "mask_at", first_without_mask),
+    *((withdrawal, "changed", wrong) for wrong in (one_before, wrong_withdrawal.renumbering_counted, wrong_withdrawal.number_taken)),
+    (withdrawal, "answers_before", equals_taken),
 )
 
 
@@ -230,13 +319,17 @@ def wrong_way(line, to, lent=()):
     return RIGHT_LINE(line, from_of(to), lent)
 
 
+def request_in(line):
+    return line.split(" ", 1)[0]
+
+
 def is_tree(line):
-    return line.split(" ", 1)[0] == shuffles.GENERATE and number_in(line) == "0"
+    return request_in(line) == shuffles.GENERATE and number_in(line) == "0"
 
 
 def with_words(line, to, lent, wrong):
     """Another rule for what a tree word becomes."""
-    return shuffles.with_tree(line, wrong, lent) if is_tree(line) else RIGHT_LINE(line, to, lent)
+    return shuffles.with_written(line, wrong, lent) if is_tree(line) else RIGHT_LINE(line, to, lent)
 
 
 def leaf_kept(line, to, lent=()):
@@ -265,26 +358,25 @@ def nothings_moved(line, to, lent=()):
 
 
 def other_buffer(line, to, lent=()):
-    """Mistake: after the tree come the words of the table's own buffer."""
-    words = line.partition(" |")[2].split()
-    return RIGHT_LINE(line, to, [int(word, 16) for word in words] if is_tree(line) else lent)
+    """Mistake: after the tree or the items come the words of the table's own buffer."""
+    return RIGHT_LINE(line, to, [int(word, 16) for word in line.partition(" |")[2].split()])
 
 
 def all_zero_after(line, to, lent=()):
-    """Mistake: after the tree come zeros."""
+    """Mistake: after the tree or the items come zeros."""
     return RIGHT_LINE(line, to, [0] * len(lent))
 
 
 def refused_buffer_kept(line, to, lent=()):
     """Mistake: a refusal leaves the buffer as it was."""
     front, bar, _ = line.partition(" |")
-    refused = line.split(" ", 1)[0] == shuffles.GENERATE and number_in(line) != "0"
+    refused = request_in(line) == shuffles.GENERATE and number_in(line) != "0"
     return " ".join([shuffles.place_left_open(front) + bar, *(f"{word:08x}" for word in lent)]) if refused else RIGHT_LINE(line, to, lent)
 
 
 def named_kept(line, to, lent=()):
     """Mistake: lookup and decode name the same number."""
-    return line if line.split(" ", 1)[0] in shuffles.NAMING else RIGHT_LINE(line, to, lent)
+    return line if request_in(line) in shuffles.NAMING else RIGHT_LINE(line, to, lent)
 
 
 def word_of_6_left_out(line, to, lent=()):
@@ -305,23 +397,62 @@ def place_moved(line, to, lent=()):
     return shuffles.with_place(line, str(to[int(place_in(line))]))
 
 
-WRONG_LINES = (wrong_way, leaf_kept, header_moved, tests_moved, nothings_moved, other_buffer, all_zero_after, refused_buffer_kept,
-               named_kept, word_of_6_left_out, place_kept, place_moved)
+def with_changed_items(line, to, lent, wrong):
+    """Another rule for what an item becomes."""
+    has_items = request_in(line) in (shuffles.STEP, shuffles.LIST)
+    return shuffles.with_items(line, wrong, lent) if has_items else RIGHT_LINE(line, to, lent)
+
+
+def items_kept(line, to, lent=()):
+    """Mistake: an item keeps its number."""
+    return with_changed_items(line, to, lent, lambda item: item)
+
+
+def nothing_items_moved(line, to, lent=()):
+    """Mistake: items of kind 13 are moved as those of kind 12 are."""
+    return with_changed_items(line, to, lent, lambda item: moved_item(item, to, (12, 13)))
+
+
+def cut_items_moved(line, to, lent=()):
+    """Mistake: items of kind 14 are moved as those of kind 12 are."""
+    return with_changed_items(line, to, lent, lambda item: moved_item(item, to, (12, 14)))
+
+
+def items_of_17_kept(line, to, lent=()):
+    """Mistake: the items that 17 leaves keep their numbers."""
+    return items_kept(line, to, lent) if number_in(line) == "17" else RIGHT_LINE(line, to, lent)
+
+
+def refused_listing_cleared(line, to, lent=()):
+    """Mistake: a refusal of list clears the buffer."""
+    return RIGHT_LINE(line, to, lent if number_in(line) == "0" else [0] * len(lent))
+
+
+WRONG_LINES = (
+    (wrong_way, ("lookup", "decode", "generate", "step", "list")),
+    *((wrong, ("generate",)) for wrong in (leaf_kept, header_moved, tests_moved, nothings_moved, refused_buffer_kept)),
+    *((wrong, ("generate", "list")) for wrong in (other_buffer, all_zero_after)),
+    (named_kept, ("lookup", "decode")),
+    (word_of_6_left_out, ("lookup", "decode", "measure", "generate", "changed")),
+    *((wrong, ("measure", "generate")) for wrong in (place_kept, place_moved)),
+    *((wrong, ("step", "list")) for wrong in (items_kept, nothing_items_moved, cut_items_moved)),
+    *((wrong, ("list",)) for wrong in (items_of_17_kept, refused_listing_cleared)),
+)
 
 
 # ---------------------------------------------------------------------------- in the place of shuffles.moved_question
 
-def entry_kept(question, words, to):
-    """Mistake: the same number is asked about."""
+def numbers_kept(question, words, to):
+    """Mistake: the same number is asked about, or the leaves of the tree keep theirs."""
     return question[0], words, *question[2:]
 
 
-def entry_wrong_way(question, words, to):
-    """Mistake: the entry asked about is moved the wrong way."""
+def numbers_wrong_way(question, words, to):
+    """Mistake: the entry asked about, or what the leaves name, is moved the wrong way."""
     return RIGHT_QUESTION(question, words, from_of(to))
 
 
-WRONG_QUESTIONS = (entry_kept, entry_wrong_way)
+WRONG_QUESTIONS = (numbers_kept, numbers_wrong_way)
 
 
 # ---------------------------------------------------------------------------- in the place of shuffles.reordered

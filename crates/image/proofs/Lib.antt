@@ -1,5 +1,6 @@
 pub mod Leading
 pub mod LastHalfword
+pub mod InParts
 pub mod Filling
 pub mod Picking
 pub mod Admitting
