@@ -23,7 +23,7 @@ from second.reader import read
 from second.tables import FIXED, NO_FORM, PLAIN, SIGNED, WITH_CYCLES
 
 SEED = 15
-MOST_WIDTH = 12             # up to here every value is asked
+MOST_WIDTH = 10             # up to here every value is asked
 LONGEST_TEXT = 23           # of -32768.0000000000000000
 MOST_ROOM = 28
 KEPT_EACH = 3000            # cases of a source on which mistakes are tried
@@ -440,9 +440,9 @@ EVERY_VALUE = sum(2 ** width * len(tables.forms_of(width)) for width in range(1,
 
 LEAST = {
     "every value: 0": 2 * EVERY_VALUE, "every number: 0": EVERY_VALUE, "every number: 12": 4 * EVERY_FORM,
-    "signed 0": 115000, "signed 2": 30000, "signed 4": 2500, "signed 12": 2000,
-    "stored 0": 115000, "stored 2": 30000, "stored 4": 2500, "stored 12": 8000, "numbers below zero": 50000,
-    "text 0": 115000, "text 2": 30000, "text 4": 2500, "text 12": 2000, "text 18": 2000, "texts read back": 115000,
+    "signed 0": 30000, "signed 2": 30000, "signed 4": 2500, "signed 12": 2000,
+    "stored 0": 30000, "stored 2": 30000, "stored 4": 2500, "stored 12": 8000, "numbers below zero": 12000,
+    "text 0": 30000, "text 2": 30000, "text 4": 2500, "text 12": 2000, "text 18": 2000, "texts read back": 30000,
     **{f"length {length}": 50 for length in range(1, LONGEST_TEXT + 1)},
     **{f"text of {length}, buffer of {room}: {0 if length <= room else 18}": 4
        for length in range(1, LONGEST_TEXT + 1) for room in range(MOST_ROOM + 1)},

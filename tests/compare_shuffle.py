@@ -25,7 +25,7 @@ import probe
 import twinned
 from compare_tree import random_buffer
 from exhaustive import REMEMBERED, found_in
-from second import checktrees, examples, image, images, reach, shuffles, tables, tree, trees, wrong_shuffles
+from second import examples, image, images, reach, shuffles, tables, tree, trees, wrong_shuffles
 from second.lines import line_of
 from second.reader import Table, read
 from second.selection import field_value
@@ -47,11 +47,10 @@ SOME_WORDS = 16         # looked up in a wide table
 SOME_DECODED = 6
 SOME_ENTRIES = 4        # encoded, and asked for their cycles
 SOME_LISTS = 4          # of words, each with an entry to withdraw
-MISTAKEN_NODES = 15     # trees of at most that many nodes are checked with mistakes too
-SOME_MISTAKES = 2       # in words, and as many in shapes
-IMAGE_TABLES = 40
-OTHER_TABLES = 8        # that are not for images: of each way to be none
-SOME_STEPS = 4          # through an image
+SOME_MISTAKES = 6       # in a tree, of different kinds
+IMAGE_TABLES = 60
+OTHER_TABLES = 5        # that are not for images: of each way to be none
+SOME_STEPS = 4          # in an image
 LIMIT_DEPTH = 13        # a full tree so deep has 16,383 nodes
 LARGE_OFTEN = 0.1       # so many of the refused tables are lent a buffer for the largest tree
 SECOND_EACH = 12        # every so many-th line is the second implementation's too
@@ -333,36 +332,32 @@ def trees_in(cases):
 
 
 def withdrawal_cases(rng, number, asked, answers):
-    """Some of the entries and lists that compare_withdrawal.py draws for the table, which has this number among all of them."""
-    laid = tables.Laid(asked.plan, asked.words, [])
-    drawn = compare_withdrawal.Asked(asked.name, laid, read(asked.words), answers, high_words(rng, asked))
-    cases = [*compare_withdrawal.cases_on(rng, number, drawn)]
+    """Some of the entries and lists that compare_withdrawal.py draws for a table, of which it only counts the entries. The table has this
+    number among all of them."""
+    laid, table = tables.Laid(asked.plan, asked.words, []), Table(asked.width, range(asked.count))
+    cases = [*compare_withdrawal.cases_on(rng, number, compare_withdrawal.Asked(asked.name, laid, table, answers, high_words(rng, asked)))]
     for one in rng.sample(cases, min(SOME_LISTS, len(cases))):
         yield case_of(asked, "changed", *one.question[2:], known=number_in(one.known), what=one.name)
 
 
-def some_of_kinds(rng, changes):
-    """A few of (what, changed), of different kinds."""
+def mistaken_trees(rng, asked, tree_words):
+    """(what, tree): a few trees with one mistake, each of another kind, as compare_check.py makes them and with a word altered. The check of
+    them follows where they name only entries of the table."""
+    accepted = compare_check.Accepted(tables.TablePlan(asked.width, range(asked.count)), asked.words, tree_words)
+    changes = [(what, changed) for what, _, changed in compare_check.trees_missing_one_part(rng, [accepted])]
+    changes += [*trees.altered_nodes(rng, tree_words, rng.randrange(1, len(tree_words))), ("a word fewer", tree_words[:-1])]
     kinds = defaultdict(list)
     for what, changed in changes:
-        kinds[what].append(changed)
+        if shuffles.names_only(changed, asked.count):
+            kinds[what].append(changed)
     return [(what, rng.choice(kinds[what])) for what in rng.sample([*kinds], min(SOME_MISTAKES, len(kinds)))]
-
-
-def mistaken_trees(rng, tree_words, count):
-    """(what, tree): one mistake in the words of a tree, or in its shape. The table has so many entries, and no other is named."""
-    index, width = rng.randrange(1, len(tree_words)), tree_words[0] >> 16 & 0x3F
-    in_words = [*compare_check.altered_in_words(rng, tree_words), *trees.altered_nodes(rng, tree_words, index), ("a word fewer", tree_words[:-1])]
-    shapes = compare_check.altered_shapes(rng, checktrees.shape_at(tree_words, 1), count)
-    some = some_of_kinds(rng, in_words) + [(what, checktrees.written(width, shape)) for what, shape in some_of_kinds(rng, shapes)]
-    return [(what, changed) for what, changed in some if shuffles.names_only(changed, count)]
 
 
 def check_cases(rng, asked, what, tree_words):
     """The tree is accepted."""
     yield case_of(asked, "check", tree_words, known="0", what=what)
-    if len(tree_words) - 1 <= MISTAKEN_NODES:
-        yield from (case_of(asked, "check", changed, what=mistake) for mistake, changed in mistaken_trees(rng, tree_words, asked.count))
+    if len(tree_words) - 1 <= compare_check.MIDDLE_NODES:
+        yield from (case_of(asked, "check", changed, what=mistake) for mistake, changed in mistaken_trees(rng, asked, tree_words))
 
 
 # ---------------------------------------------------------------------------- images
@@ -384,11 +379,12 @@ def asked_with_images(rng, name, plan):
 
 
 def listing_cases(rng, asked, what, tree_words, data):
-    """A buffer that takes all items, one that may be too short, and steps at some addresses."""
-    halves = len(data) // 2
+    """A buffer that takes all items, one that may be too short, steps at some addresses, and one at the end or past it."""
+    halves, addresses = len(data) // 2, sorted(compare_image.addresses(rng, data))
+    inside = [address for address in addresses if address < halves]
     for length in (halves + rng.randrange(4), rng.randint(0, halves)):
         yield lending_case(rng, length, asked, "list", tree_words, data, what=what)
-    for address in rng.sample(sorted(compare_image.addresses(rng, data)), SOME_STEPS):
+    for address in [*rng.sample(inside, min(SOME_STEPS, len(inside))), rng.choice(addresses[len(inside):])]:
         yield case_of(asked, "step", tree_words, data, address, what=what)
 
 
@@ -498,10 +494,12 @@ def items_with_ends(case):
     return [*zip(items, [*(item & 0xFFFFF for item in items[1:]), end])]
 
 
-def count_items(case, to, tally):
+def count_items(name, case, to, tally):
+    """Each by its kind and by how far on the next one is, which tells a short entry from a long one."""
+    tally[f"{name}, end"] += case.line.endswith(" end")
     for item, following in items_with_ends(case):
-        tally[f"{case.question[0]}, kind {item >> 28}, {following - (item & 0xFFFFF)} on"] += 1
-        tally[f"{case.question[0]}, items with another number"] += shuffles.moved_item(item, to) != item
+        tally[f"{name}, kind {item >> 28}, {following - (item & 0xFFFFF)} on"] += 1
+        tally[f"{name}, items with another number"] += shuffles.moved_item(item, to) != item
 
 
 def count(case, tally):
@@ -521,7 +519,7 @@ def count(case, tally):
         if name == "generate" and number == "0":
             count_tree(to, case.line, tally)
         if name in LISTING:
-            count_items(case, to, tally)
+            count_items(name, case, to, tally)
         if name == "list":
             tally["words after items"] += len(lent_in(again)) - len(written_in(seen))
         if name == "changed" and number == "0":
@@ -688,7 +686,27 @@ LEAST = {
     "one test over: generate 5": 36, "far over: generate 5": 4, "by hand: generate 0": 70, "by hand: generate 6": 40,
     "by hand: generate 19": 60,
     "by the second: lookup": 10000, "by the second: decode": 2000, "by the second: encode": 1900, "by the second: cycles": 1000,
-    "by the second: measure": 1100, "by the second: generate": 5300, "twins": 8600, "twins by the second": 430,
+    "by the second: measure": 1100, "by the second: generate": 5300,
+    "changed 0": 4900, "changed 6": 460, "changed 7": 1300, "changed 11": 2000, "changed 6, not word 0": 430, "changed, over 0": 3000,
+    "changed, another entry asked": 5200, "changed, in order: 0": 2000, "changed, shuffled, with duplicates: 0": 1800,
+    "changed, no words: 0": 600, "changed, a single word: 0": 360, "changed, a single word: 6": 25,
+    **{f"changed, no such entry, {what}: 11": 620 for what in ("no words", "fit words", "an unfit word")},
+    **{f"changed, {first}{others}, the first at the {place}: {first}": 15 for place in compare_withdrawal.PLACES
+       for first in (6, 7) for others in ("", " and 6", " and 7", " and 6 and 7")},
+    "check 0": 1100, "check 14": 4100, f"check, {MADE}: 0": 1000, "check, given: 0": 150, "check, leaf changed: 14": 310,
+    "check, sides swapped: 14": 180, "check, tested again: 14": 290, "check, collapsed: 14": 300, "check, one side moved: 14": 250,
+    "check, index moved: 14": 100, "check, index above: 14": 110, "check, index below: 14": 100, "check, tested bit: 14": 95,
+    "check, kind: 14": 340, "check, spare bit: 14": 370, "check, word: 14": 360, "check, another width: 14": 300,
+    "check, a shared side: 14": 140, "check, a gap: 14": 220, "check, unused nodes: 14": 210, "check, a word fewer: 14": 360,
+    "not renumbered: 0": 190, "not renumbered: 14": 640,
+    "list 0": 1300, "list 14": 240, "list 15": 480, "list 16": 250, "list 17": 450, f"{LETTERS}: list 0": 25, "words after items": 10000,
+    "list, kind 12, 1 on": 3000, "list, kind 12, 2 on": 3000, "list, kind 13, 1 on": 1700, "list, kind 14, 1 on": 430,
+    "list, items with another number": 4500, "kind 1: list 0": 730, "kind 6: list 0": 560, "kind 1: list 17": 230, "kind 6: list 17": 200,
+    "step 0": 3100, "step 14": 480, "step 15": 830, "step 16": 450, f"{LETTERS}: step 0": 60, "step, end": 880,
+    "step, kind 12, 1 on": 700, "step, kind 12, 2 on": 550, "step, kind 13, 1 on": 600, "step, kind 14, 1 on": 330,
+    "step, items with another number": 930, "kind 1: step 0": 1700, "kind 6: step 0": 1300,
+    "by the second: changed": 960, "by the second: check": 680, "by the second: list": 160, "by the second: step": 340,
+    "twins": 9600, "twins by the second": 480,
 }
 
 
@@ -722,17 +740,31 @@ def ask_more(path, rng, cases):
     return more
 
 
+def outcomes(tally, call, good, *numbers):
+    """How often each number came; 0 is called what it means."""
+    return f"{call} {good}: {tally[f'{call} 0']}, " + ", ".join(f"{number}: {tally[f'{call} {number}']}" for number in numbers)
+
+
+def items_said(tally, call):
+    kinds = {"short": "12, 1", "long": "12, 2", "nothing": "13, 1", "cut": "14, 1"}
+    return f"{call} " + ", ".join(f"{name}: {tally[f'{call}, kind {kind} on']}" for name, kind in kinds.items()) \
+        + f", with another number: {tally[f'{call}, items with another number']}"
+
+
 def summary(tally):
     calls = ", ".join(f"{name}: {tally[name]}" for name in CALLS)
-    generated = ", ".join(f"{what}: {tally[f'generate {number}']}" for what, number in (("tree", 0), ("5", 5), ("6", 6), ("19", 19)))
     places = tally["19, the same place"] + tally["19, another place"]
     programs, expectations = len(wrong_shuffles.WRONG_PROGRAMS), sum(map(len, WRONG_EXPECTATIONS))
     return (f"compare_shuffle good: {tally['tables']} tables, {tally['tables in three orders']} of them in three other orders each, "
-            f"{tally['orders that move an entry']} orders in all; {tally['lines']} lines ({calls}); generate {generated}; "
+            f"{tally['orders that move an entry']} orders in all; {tally['lines']} lines ({calls}); "
+            f"{outcomes(tally, 'generate', 'tree', 5, 6, 19)}; "
             f"{tally['leaves']} leaves, {tally['leaves with another number']} of them with another number, {tally['tests']} tests, "
             f"{tally['nothings']} nothings; of {places} such orders with 19 {tally['19, another place']} have another place, "
-            f"{tally['19, another entry']} another entry than the moved one; by the second: {tally['by the second']}, "
-            f"to twins: {tally['twins']}; {len(examples.SHUFFLE_EXAMPLES)} examples by hand; {programs} wrong programs and {expectations} wrong expectations noticed")
+            f"{tally['19, another entry']} another entry than the moved one; {outcomes(tally, 'changed', 'counts', 11, 7, 6)}; "
+            f"{outcomes(tally, 'check', 'yes', 14)}, {outcomes(tally, 'not renumbered:', 'yes', 14)}; {IMAGE_TABLES} tables for images, "
+            f"{outcomes(tally, 'list', 'whole', 15, 16, 14, 17)}; items of {items_said(tally, 'list')}; of {items_said(tally, 'step')}; "
+            f"by the second: {tally['by the second']}, to twins: {tally['twins']}; {len(examples.SHUFFLE_EXAMPLES)} examples by hand; "
+            f"{programs} wrong programs and {expectations} wrong expectations noticed")
 
 
 def main():
@@ -750,7 +782,7 @@ def main():
     by_second_too = second_cases(some, cases) + quick[::SECOND_EACH]
     for case in by_second_too:
         compare_second(case, tally)
-    compare_not_renumbered(path, quick[::SECOND_EACH], tally)
+    compare_not_renumbered(path, quick, tally)
     compare_twins(path, cases + quick, tally)
     probe.require_enough(tally, LEAST)
     notice_wrong(by_second_too)

@@ -174,17 +174,9 @@ status 0
      c: 8012       cut off
 status 0
 status 0
-1ffffc: bfcd       entry 87
-1ffffe: 940e 0040  entry 78
-200002: 940c 0045  entry 77
-2013b0: cfff       entry 88
-status 0
-822599 lines
 refused 14: the tree is not right for the table
 status 1
 refused 15: the table is not for images
-status 1
-refused 16: the image has an odd number of bytes, or over 2097152 at once
 status 1
 refused 16: the image has an odd number of bytes, or over 2097152 at once
 status 1
@@ -196,6 +188,18 @@ target/examples/cut.tree: not whole words
 status 2
 target/examples: can't be read
 status 2
+END
+
+# Lines where the first part ends, and the last one.
+cat > "$out/lister_long.expected" <<'END'
+1ffffc: bfcd       entry 87
+1ffffe: 940e 0040  entry 78
+200002: 940c 0045  entry 77
+2013b0: cfff       entry 88
+status 0
+822599 lines
+refused 16: the image has an odd number of bytes, or over 2097152 at once
+status 1
 END
 
 # An item's slot is its top ten bits.
@@ -337,15 +341,18 @@ lister_runs() { # program
     run "$1" data/buoy.table "$out/buoy.tree" "$out/buoy.image"
     run "$1" "$out/ends.table" "$out/ends.tree" "$out/ends.image"        # with 0 for its other half the last one would be unknown
     run "$1" data/avr.table "$out/avr.tree" /dev/null                    # an image without bytes has no items
-    run "$1" data/avr.table "$out/avr.tree" "$out/long.image" | awk '/^(1ffffc|1ffffe|200002|2013b0):|^status/; END { print NR " lines" }'
     run "$1" data/avr.table "$out/buoy.tree" examples/avr.image
     run "$1" "$out/three.table" "$out/three.tree" examples/avr.image
     run "$1" data/avr.table "$out/avr.tree" "$out/three.image"           # three bytes
-    run "$1" data/avr.table "$out/avr.tree" "$out/long_odd.image"        # refused before anything is listed
     run "$1" "$out/early.table" "$out/three.tree" examples/avr.image
     run "$1" "$out/long.table" "$out/three.tree" examples/avr.image
     run "$1" data/avr.table "$out/cut.tree" examples/avr.image
     run "$1" data/avr.table "$out/avr.tree" "$out"
+}
+
+lister_long_runs() { # program
+    run "$1" data/avr.table "$out/avr.tree" "$out/long.image" | awk '/^(1ffffc|1ffffe|200002|2013b0):|^status/; END { print NR " lines" }'
+    run "$1" data/avr.table "$out/avr.tree" "$out/long_odd.image"        # refused before anything is listed
 }
 
 cache_runs() { # program
@@ -393,11 +400,11 @@ operands_runs() { # program
     run "$1" data/avr.table 0
 }
 
-try_example() { # name; standard input: an edit a line, each of which makes one thing wrong, so that the lines must differ
+try_example() { # name, its runs; standard input: an edit a line, each of which makes one thing wrong, so that the lines must differ
     local edits=0 edit header changed
     build "examples/$1.c" "$out/$1"
-    "$1_runs" "$out/$1" > "$out/$1.seen"
-    diff "$out/$1.expected" "$out/$1.seen" || { echo "examples: $1 prints not the expected lines"; exit 1; }
+    "$2_runs" "$out/$1" > "$out/$2.seen"
+    diff "$out/$2.expected" "$out/$2.seen" || { echo "examples: $1 prints not the expected lines"; exit 1; }
     while IFS= read -r edit; do
         sed "$edit" "examples/$1.c" > "$out/edited.c"
         changed=0
@@ -408,14 +415,14 @@ try_example() { # name; standard input: an edit a line, each of which makes one 
         done
         if [ "$changed" = 0 ]; then echo "examples: $1: the edit $edit changes nothing"; exit 1; fi
         gcc -std=c11 -O0 -Iinclude "$out/edited.c" "$library" -o "$out/edited"
-        "$1_runs" "$out/edited" > "$out/edited.seen" 2>&1
-        if cmp -s "$out/$1.expected" "$out/edited.seen"; then echo "examples: $1: the edit $edit is not noticed"; exit 1; fi
+        "$2_runs" "$out/edited" > "$out/edited.seen" 2>&1
+        if cmp -s "$out/$2.expected" "$out/edited.seen"; then echo "examples: $1: the edit $edit is not noticed"; exit 1; fi
         edits=$((edits + 1))
     done
-    echo "$1 good: $(grep -c '^status' "$out/$1.expected") runs, $edits of $edits edits noticed"
+    echo "$2 good: $(grep -c '^status' "$out/$2.expected") runs, $edits of $edits edits noticed"
 }
 
-try_example simulator <<'END'
+try_example simulator simulator <<'END'
 s/at\[byte\] << 8 \* byte/at[byte] << 8 * (size - 1 - byte)/
 s/width <= 16 ? 2 : 4/width <= 16 ? 2 : 2/
 s/account->unknown++/account->unknown/
@@ -460,23 +467,25 @@ run "$out/unchecked" "$out/three.table" "$out/damaged.tree" "$out/seven.currents
 diff "$out/unchecked.expected" "$out/unchecked.seen" || { echo 'examples: simulator charges a walk that is refused'; exit 1; }
 echo 'simulator charges no walk that is refused'
 
-try_example lister <<'END'
+try_example lister lister <<'END'
 s/kilnumber_item_address(items\[at + 1\])/kilnumber_item_address(items[at]) + 1/
 s/case KILNUMBER_CUT_OFF/case 99/
 s/case KILNUMBER_INSTRUCTION/case 98/
 s/return refused;/return 0;/
 s/items, length \/ 2)/items, length \/ 4)/
-s/start = part.next;/start = image.count;/
-s/"%6zx:", start + 2 \* address/"%6zx:", 2 * address/
-s/part = image.at + start;/part = image.at;/
-s/most - left % 2/most/
 s/case KILNUMBER_BAD_IMAGE/case 99/
 s/case KILNUMBER_NO_IMAGE_TABLE/case 99/
 s/table.count > KILNUMBER_MOST_TABLE_WORDS/0/
 s/if (bytes.count % 4 != 0)/if (0)/
 s/part\[2 \* at + 1\], part\[2 \* at\]/part[2 * at], part[2 * at + 1]/
 END
-try_example cache <<'END'
+try_example lister lister_long <<'END'
+s/start = part.next;/start = image.count;/
+s/"%6zx:", start + 2 \* address/"%6zx:", 2 * address/
+s/part = image.at + start;/part = image.at;/
+s/most - left % 2/most/
+END
+try_example cache cache <<'END'
 s/(word & slot->cover) == slot->key/slot->cover != 0/
 s/slot->key = word & slot->cover/slot->key = word/
 s/slot->cover = kilnumber_mask_words(.*, word)/slot->cover = 0xffffffff/
@@ -496,7 +505,7 @@ s/return failed;/return 0;/
 s/if (bytes.count % 4 != 0)/if (0)/
 END
 
-try_example operands <<'END'
+try_example operands operands <<'END'
 s/== 6 ? 4 : 3/== 6 ? 3 : 3/
 s/== 6 ? 4 : 3/== 6 ? 4 : 4/
 s/head >> 4 & 15/head \& 15/
