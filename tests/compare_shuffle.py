@@ -1,12 +1,11 @@
 """Reorders the entries of tables (second/shuffles.py) and asks probe the same of each table and of its reorderings: lookup, decode, encode,
-cycles, measure, and generate into equally long buffers with other words in them; how many words of a list a withdrawal changes; check, of
-the trees that probe made and of such trees with a mistake; and, of tables for images, list and step, with other words in the buffers. The
-leaves of a tree are renumbered for each reordering. What probe must print for a reordered table follows from its line for the table and from
-the order alone. The place of 19 is left open there; it must be the lowest entry of its own table that no word selects, by probe's own lookups
-of all words, or by the second implementation where they are too many. With a tree that is not renumbered, the second implementation alone
-says what check must. A part of the lines is compared with the second implementation too, and a part is asked again about twins of the other
-kind. At the end mistakes with the order (second/wrong_shuffles.py) are made, in programs and in what is expected of them, and each must be
-noticed.
+cycles, measure, and generate into equally long buffers with other words in them; then how many words of a list a withdrawal changes; check,
+with the trees that probe made, and with mistakes in them; of tables for images list, again with other words in the buffers, and step. A tree
+has its leaves renumbered for a reordered table. What probe must print for that follows from its line for the table and from the order alone.
+The place of 19 is left open there; it must be the lowest entry of its own table that no word selects, by probe's own lookups of all words, or
+by the second implementation where they are too many. A part of the lines is compared with the second implementation too, and so are all
+checks of trees that are not renumbered; a part is asked again about twins of the other kind. At the end mistakes with the order
+(second/wrong_shuffles.py) are made, in programs and in what is expected of them, and each must be noticed.
 
 Usage: compare_shuffle.py [path of probe]. Exits with status 1 at the first difference. Quotations are document 02's No. 12.
 """
@@ -56,14 +55,14 @@ LARGE_OFTEN = 0.1       # so many of the refused tables are lent a buffer for th
 SECOND_EACH = 12        # every so many-th line is the second implementation's too
 SECOND_TABLES = 8       # and all trees of every so many-th table
 SMALL = 5               # and of the tables up to that width, on which mistakes are tried
-QUICK = 120             # and every so many-th check, listing, step or withdrawal that has at most that many words
+QUICK = 120             # checks, listings and withdrawals of more words are neither the second implementation's nor asked again about twins
 TWINS_EACH = 15         # every so many-th line about reordered tables is asked again about their twins
 MANY = "256 entries apart"
 LARGE = (MANY, "256 entries", "longest", "at the limit", "at the limit, twice", "at the limit, excluded", "one test over", "far over")
 IMAGES, NO_IMAGES, LETTERS = "for images", "not for images", "for images, 256 entries"
 CALLS = ("lookup", "decode", "encode", "cycles", "measure", "generate", "changed", "check", "list", "step")
 MAKING = ("measure", "generate")    # the calls that make the tree
-LENDING = ("generate", "list")      # the calls whose buffer's words are not the same for the reordered tables
+LENDING = ("generate", "list")      # the calls that are lent other words for a reordered table
 LISTING = ("list", "step")          # the calls with items
 MADE = "made by probe"              # a tree
 
@@ -74,7 +73,7 @@ class Asked:
     name: str
     plan: tables.TablePlan      # None where the table is written by hand
     words: list
-    nodes: int                  # of its tree, by the second implementation, which only chooses lengths with it; None if they are many
+    nodes: int                  # of its tree, by the second implementation, which only chooses lengths; None if they are many, or not needed
     orders: list                # (name, to)
     reordered: list = None      # the words for each order
     size: str = None            # probe's line for the table
@@ -332,17 +331,17 @@ def trees_in(cases):
 
 
 def withdrawal_cases(rng, number, asked, answers):
-    """Some of the entries and lists that compare_withdrawal.py draws for a table, of which it only counts the entries. The table has this
-    number among all of them."""
+    """Some of the entries and lists that compare_withdrawal.py draws for the so many-th table; of its entries it only needs their number."""
     laid, table = tables.Laid(asked.plan, asked.words, []), Table(asked.width, range(asked.count))
-    cases = [*compare_withdrawal.cases_on(rng, number, compare_withdrawal.Asked(asked.name, laid, table, answers, high_words(rng, asked)))]
+    drawn = compare_withdrawal.Asked(asked.name, laid, table, answers, high_words(rng, asked))
+    cases = [*compare_withdrawal.cases_on(rng, number, drawn)]
     for one in rng.sample(cases, min(SOME_LISTS, len(cases))):
         yield case_of(asked, "changed", *one.question[2:], known=number_in(one.known), what=one.name)
 
 
 def mistaken_trees(rng, asked, tree_words):
-    """(what, tree): a few trees with one mistake, each of another kind, as compare_check.py makes them and with a word altered. The check of
-    them follows where they name only entries of the table."""
+    """(what, tree): a few with one mistake, each of another kind, as compare_check.py makes them or with a node altered. They name only
+    entries of the table; of others the order says nothing."""
     accepted = compare_check.Accepted(tables.TablePlan(asked.width, range(asked.count)), asked.words, tree_words)
     changes = [(what, changed) for what, _, changed in compare_check.trees_missing_one_part(rng, [accepted])]
     changes += [*trees.altered_nodes(rng, tree_words, rng.randrange(1, len(tree_words))), ("a word fewer", tree_words[:-1])]
@@ -354,7 +353,7 @@ def mistaken_trees(rng, asked, tree_words):
 
 
 def check_cases(rng, asked, what, tree_words):
-    """The tree is accepted."""
+    """A tree that is accepted, and some with mistakes."""
     yield case_of(asked, "check", tree_words, known="0", what=what)
     if len(tree_words) - 1 <= compare_check.MIDDLE_NODES:
         yield from (case_of(asked, "check", changed, what=mistake) for mistake, changed in mistaken_trees(rng, asked, tree_words))
@@ -363,7 +362,7 @@ def check_cases(rng, asked, what, tree_words):
 # ---------------------------------------------------------------------------- images
 
 def image_tables(path, rng):
-    """(name, table with a tree that is accepted): for images, not for images, and with 256 entries, whose tree probe makes."""
+    """(name, table with a tree that is accepted): for images and not for images; then one for images with 256 entries, and probe's tree."""
     yield from ((IMAGES, one) for one in compare_image.ready_tables(rng, compare_halves.some_plan, IMAGE_TABLES))
     for make in (images.wrong_length_plan, compare_image.other_width_plan):
         yield from ((NO_IMAGES, one) for one in compare_image.ready_tables(rng, make, OTHER_TABLES))
@@ -373,7 +372,7 @@ def image_tables(path, rng):
 
 
 def asked_with_images(rng, name, plan):
-    """Half of the tables are of kind 6, whose trees are the same."""
+    """Half of the tables are of kind 6; the tree is the same."""
     laid = rng.choice(tables.lay_out_both(rng, plan))
     return Asked(name, laid.plan, laid.words, None, shuffles.some_orders(rng, len(plan.entries), ORDERS))
 
@@ -471,20 +470,17 @@ def count_places(to, line, seen, tally):
     tally["19, another entry"] += after != to[before]
 
 
-def count_tree(to, line, tally):
-    front, _, back = line.partition(" |")
-    length = int(front.split(" ")[4])
-    words = [int(word, 16) for word in back.split()]
-    leaves = [word & 0xFF for word in words[:length] if word >> 28 == 9]
+def count_tree(to, made, lent, tally):
+    leaves = [word & 0xFF for word in made if word >> 28 == 9]
     tally["leaves"] += len(leaves)
     tally["leaves with another number"] += sum(to[entry] != entry for entry in leaves)
     tally["trees with a moved leaf"] += any(to[entry] != entry for entry in leaves)
-    tally["tests"] += sum(word >> 28 == 8 for word in words[:length])
-    tally["nothings"] += sum(word >> 28 == 10 for word in words[:length])
-    tally["words after a tree"] += len(words) - length
+    tally["tests"] += sum(word >> 28 == 8 for word in made)
+    tally["nothings"] += sum(word >> 28 == 10 for word in made)
+    tally["words after a tree"] += len(lent) - len(made)
 
 
-def items_with_ends(case):
+def items_with_next(case):
     """(item, the address after it) of a step, or of each item that listing left; with 17 the place is the address after the last one."""
     name, _, _, data, _ = case.question
     front = case.line.partition(" |")[0].split(" ")
@@ -494,10 +490,9 @@ def items_with_ends(case):
     return [*zip(items, [*(item & 0xFFFFF for item in items[1:]), end])]
 
 
-def count_items(name, case, to, tally):
-    """Each by its kind and by how far on the next one is, which tells a short entry from a long one."""
-    tally[f"{name}, end"] += case.line.endswith(" end")
-    for item, following in items_with_ends(case):
+def count_items(name, to, items, tally):
+    """Each by its kind, and by how far on the next one is: so a short entry is told from a long one."""
+    for item, following in items:
         tally[f"{name}, kind {item >> 28}, {following - (item & 0xFFFFF)} on"] += 1
         tally[f"{name}, items with another number"] += shuffles.moved_item(item, to) != item
 
@@ -516,14 +511,15 @@ def count(case, tally):
         tally[f"{name}, another entry asked"] += name in shuffles.TAKING and case.question[2] != again[2]
         if case.what is not None:
             tally[f"{name}, {case.what}: {number}"] += 1
+        tally[f"{name}, end"] += case.line.endswith(" end")
         if name == "generate" and number == "0":
-            count_tree(to, case.line, tally)
-        if name in LISTING:
-            count_items(name, case, to, tally)
+            count_tree(to, written_in(case.line), lent_in(again), tally)
         if name == "list":
-            tally["words after items"] += len(lent_in(again)) - len(written_in(seen))
+            tally[f"list {number}, words as lent"] += len(lent_in(again)) - len(written_in(case.line))
+        if name in LISTING:
+            count_items(name, to, items_with_next(case), tally)
         if name == "changed" and number == "0":
-            tally["changed, over 0"] += not seen.endswith(" 0")
+            tally["changed, over 0"] += not case.line.endswith(" 0")
         if name == "measure" and number == "19" and to != sorted(to):
             count_places(to, case.line, seen, tally)
 
@@ -561,13 +557,17 @@ def second_cases(some, cases):
 
 
 def is_quick(case):
-    """Whether the second implementation has it soon."""
+    """Whether the second implementation doesn't take long."""
     return sum(len(part) for part in case.question[1:] if isinstance(part, list)) <= QUICK
 
 
+def more_second_cases(quick):
+    """Lines of every kind, and the ambiguous words of small tables, of which there are few."""
+    return quick[::SECOND_EACH] + [case for case in quick if case.asked.width <= SMALL and number_in(case.line) == "6"]
+
+
 def compare_not_renumbered(path, cases, tally):
-    """The reordered tables with the table's tree as it is. The check of that doesn't follow from the table's: the second implementation
-    alone says what it must be."""
+    """The reordered tables with the table's own tree. Of that the order says nothing; the second implementation does."""
     questions = [("check", words, case.question[2]) for case in cases if case.what == MADE for words in case.asked.reordered]
     for question, seen in zip(questions, probe.ask(path, questions), strict=True):
         probe.stop_at_difference("not renumbered", question, line_of(question), seen)
@@ -687,25 +687,27 @@ LEAST = {
     "by hand: generate 19": 60,
     "by the second: lookup": 10000, "by the second: decode": 2000, "by the second: encode": 1900, "by the second: cycles": 1000,
     "by the second: measure": 1100, "by the second: generate": 5300,
-    "changed 0": 4900, "changed 6": 460, "changed 7": 1300, "changed 11": 2000, "changed 6, not word 0": 430, "changed, over 0": 3000,
-    "changed, another entry asked": 5200, "changed, in order: 0": 2000, "changed, shuffled, with duplicates: 0": 1800,
-    "changed, no words: 0": 600, "changed, a single word: 0": 360, "changed, a single word: 6": 25,
-    **{f"changed, no such entry, {what}: 11": 620 for what in ("no words", "fit words", "an unfit word")},
-    **{f"changed, {first}{others}, the first at the {place}: {first}": 15 for place in compare_withdrawal.PLACES
-       for first in (6, 7) for others in ("", " and 6", " and 7", " and 6 and 7")},
-    "check 0": 1100, "check 14": 4100, f"check, {MADE}: 0": 1000, "check, given: 0": 150, "check, leaf changed: 14": 310,
-    "check, sides swapped: 14": 180, "check, tested again: 14": 290, "check, collapsed: 14": 300, "check, one side moved: 14": 250,
-    "check, index moved: 14": 100, "check, index above: 14": 110, "check, index below: 14": 100, "check, tested bit: 14": 95,
-    "check, kind: 14": 340, "check, spare bit: 14": 370, "check, word: 14": 360, "check, another width: 14": 300,
-    "check, a shared side: 14": 140, "check, a gap: 14": 220, "check, unused nodes: 14": 210, "check, a word fewer: 14": 360,
+    "changed 0": 4800, "changed 6": 460, "changed 7": 1300, "changed 11": 2000, "changed 6, not word 0": 430, "changed, over 0": 2900,
+    "changed, another entry asked": 5000, "changed, in order: 0": 1900, "changed, shuffled, with duplicates: 0": 1800,
+    "changed, no words: 0": 610, "changed, a single word: 0": 360, "changed, a single word: 6": 28,
+    **{f"changed, no such entry, {what}: 11": 630 for what in ("no words", "fit words", "an unfit word")},
+    **{f"changed, {numbers}, the first at the {place}: {numbers[0]}": least for place in compare_withdrawal.PLACES
+       for numbers, least in (("6", 36), ("6 and 6", 28), ("6 and 7", 17), ("6 and 6 and 7", 26),
+                              ("7", 180), ("7 and 6", 33), ("7 and 7", 170), ("7 and 6 and 7", 27))},
+    "check 0": 1100, "check 14": 4000, f"check, {MADE}: 0": 1000, "check, given: 0": 150, "check, leaf changed: 14": 310,
+    "check, sides swapped: 14": 190, "check, tested again: 14": 300, "check, collapsed: 14": 300, "check, one side moved: 14": 240,
+    "check, index moved: 14": 91, "check, index above: 14": 120, "check, index below: 14": 100, "check, tested bit: 14": 95,
+    "check, kind: 14": 340, "check, spare bit: 14": 350, "check, word: 14": 360, "check, another width: 14": 290,
+    "check, a shared side: 14": 140, "check, a gap: 14": 220, "check, unused nodes: 14": 210, "check, a word fewer: 14": 350,
     "not renumbered: 0": 190, "not renumbered: 14": 640,
-    "list 0": 1300, "list 14": 240, "list 15": 480, "list 16": 250, "list 17": 450, f"{LETTERS}: list 0": 25, "words after items": 10000,
-    "list, kind 12, 1 on": 3000, "list, kind 12, 2 on": 3000, "list, kind 13, 1 on": 1700, "list, kind 14, 1 on": 430,
-    "list, items with another number": 4500, "kind 1: list 0": 730, "kind 6: list 0": 560, "kind 1: list 17": 230, "kind 6: list 17": 200,
-    "step 0": 3100, "step 14": 480, "step 15": 830, "step 16": 450, f"{LETTERS}: step 0": 60, "step, end": 880,
-    "step, kind 12, 1 on": 700, "step, kind 12, 2 on": 550, "step, kind 13, 1 on": 600, "step, kind 14, 1 on": 330,
-    "step, items with another number": 930, "kind 1: step 0": 1700, "kind 6: step 0": 1300,
-    "by the second: changed": 960, "by the second: check": 680, "by the second: list": 160, "by the second: step": 340,
+    "list 0": 1300, "list 14": 230, "list 15": 440, "list 16": 250, "list 17": 430, f"{LETTERS}: list 0": 28,
+    **{f"list {number}, words as lent": least for number, least in ((0, 3200), (14, 1600), (15, 2000), (16, 1600))},
+    "list, kind 12, 1 on": 3000, "list, kind 12, 2 on": 2700, "list, kind 13, 1 on": 1700, "list, kind 14, 1 on": 430,
+    "list, items with another number": 4400, "kind 1: list 0": 720, "kind 6: list 0": 620, "kind 1: list 17": 210, "kind 6: list 17": 210,
+    "step 0": 3000, "step 14": 440, "step 15": 690, "step 16": 460, f"{LETTERS}: step 0": 70, "step, end": 880,
+    "step, kind 12, 1 on": 700, "step, kind 12, 2 on": 500, "step, kind 13, 1 on": 580, "step, kind 14, 1 on": 320,
+    "step, items with another number": 900, "kind 1: step 0": 1500, "kind 6: step 0": 1400,
+    "by the second: changed": 950, "by the second: check": 650, "by the second: list": 200, "by the second: step": 380,
     "twins": 9600, "twins by the second": 480,
 }
 
@@ -725,7 +727,7 @@ def ask_all(path, rng, some, tally):
 
 
 def ask_more(path, rng, cases):
-    """The same of what probe's lookups and trees are needed for, and of images."""
+    """Cases that take what probe said in these, and those with images, all with probe's lines."""
     more = []
     for number, (asked, answers) in enumerate(answers_in(cases).items()):
         more += withdrawal_cases(rng, number, asked, answers)
@@ -779,7 +781,7 @@ def main():
     more = ask_more(path, random.Random(MORE_SEED), cases)
     compare(cases + more, tally)
     quick = [case for case in more if is_quick(case)]
-    by_second_too = second_cases(some, cases) + quick[::SECOND_EACH]
+    by_second_too = second_cases(some, cases) + more_second_cases(quick)
     for case in by_second_too:
         compare_second(case, tally)
     compare_not_renumbered(path, quick, tally)

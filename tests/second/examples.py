@@ -1525,7 +1525,7 @@ SHUFFLE_EXAMPLES = [
       for address, said in enumerate(["c0100000 1 80000000", "c0000001 3 c0000000", "c0100002 3 80000000", "d0000003 4 c0000000",
                                       "c0100004 5 80000000", "e0000005 6 c0000000", "end"])),
 
-    # The counts of WITHDRAWAL_EXAMPLES, with the entries.
+    # As in WITHDRAWAL_EXAMPLES, each count with its entry.
     *counts("all words of the worked table backwards", WORKED_BACKWARDS, list(range(256)), [32, 4, 4, 16, 16, 48, 40]),
     *counts("0-0 added, the second first, word 1", LOW_FIRST, [1], [0, 1, 0]),
     *counts("0-0 added, the second first, word 6", LOW_FIRST, [6], [1, 0, 0]),

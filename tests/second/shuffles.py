@@ -129,10 +129,9 @@ def moved_item(item, to, kinds=(12,)):
 def written_in(line):
     """The words that generating or listing wrote to its buffer: a tree, or items. 17 fills it with items, another refusal leaves none."""
     front, _, back = line.partition(" |")
-    words = [int(word, 16) for word in back.split()]
-    if number_in(line) == "17":
-        return words
-    return words[:int(front.split(" ")[4])] if number_in(line) == "0" else []
+    number, words = number_in(line), back.split()
+    length = int(front.split(" ")[4]) if number == "0" else len(words) if number == "17" else 0
+    return [int(word, 16) for word in words[:length]]
 
 
 def with_written(line, change, lent):
