@@ -34,10 +34,10 @@ struct account {
 static const char *read_current(struct text line, struct account *account) {
     uint32_t entry = 0, current = 0;
     if (skip_blanks(&line)) return NULL;
-    if (!take_number(&line, 10, KILNUMBER_MOST_ENTRIES - 1, &entry)) return "its first is no entry's number";
+    if (!take_number(&line, 10, KILNUMBER_MOST_ENTRIES - 1, &entry)) return "no entry's number at its start";
     skip_blanks(&line);
-    if (!take_number(&line, 10, MOST_CURRENT, &current)) return "its second is no current";
-    if (!skip_blanks(&line)) return "it has more than two";
+    if (!take_number(&line, 10, MOST_CURRENT, &current)) return "no current after the entry";
+    if (!skip_blanks(&line)) return "more than an entry and its current";
     if (account->has_current[entry]) return "the entry has a current already";
     account->current[entry] = current;
     account->has_current[entry] = 1;

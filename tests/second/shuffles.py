@@ -147,7 +147,7 @@ def with_item(line, change):
 
 
 def with_items(line, change, lent):
-    """The line of a step or of listing."""
+    """The line of a step or of listing with each item changed."""
     return with_item(line, change) if line.split(" ", 1)[0] == STEP else with_written(line, change, lent)
 
 

@@ -2,8 +2,7 @@
 --     in-parts     every item of a part but the last is the whole image's, and from that one's address on the rest is listed by itself
 use mathlib.Core.Path.{_≡_, refl, sym, ap, _∙_}
 use mathlib.Core.List.{List, [], _∷_, _++_, map}
-use Prim.Native.Nat.{ℕ, zero, suc, _+_, _-_, _*_, _^_, _≤_, _<_}
-use native.Mathlib.Nat.{le-refl}
+use Prim.Native.Nat.{ℕ, zero, suc, _+_, _*_, _^_, _≤_, _<_}
 use native.Mathlib.Omega.{arith}
 use borrow.Author.Tests.{lt-ltb, le-ltb, ltb-true, ltb-false}
 use lib.Dec.{eqb, ltb}
@@ -19,7 +18,7 @@ use Rattle.image.specs.declared.Item.{Item}
 use Rattle.image.specs.declared.Picked.{Picked}
 use Rattle.image.specs.declared.Picked.the-variants.{Short, Long, Nothing, Cut}
 use Rattle.image.specs.Address.{after, halfwordAt, wordAt, halfwords}
-use Rattle.image.specs.Items.{pickedBy, picked, lastPicked, pickedAt, foundWord, nothingWord, cutWord, itemOf, itemAt, items}
+use Rattle.image.specs.Items.{pickedBy, picked, pickedAt, foundWord, nothingWord, cutWord, itemOf, itemAt, items}
 use Rattle.image.proofs.Leading.{leads, item-full, on, on-end, on-item, items-on}
 
 -- ---- a full word of a part is the whole image's
@@ -122,7 +121,7 @@ module _ (es : List Entry) (image : List ℕ) (b : ℕ) (inside : b ≤ halfword
       let l : halfwords left ≤ a .0 + 1 = ltb-false (a .0 + 1) (halfwords left) t in
       rw (t, le-ltb (a .0 + b + 1) (halfwords image) (omega (arith, left-halves)), half-moved a) refl)
 
-  pub record Moved (i j : Item) : Type 0 where
+  record Moved (i j : Item) : Type 0 where
     pub word : i .word ≡ j .word + b
     pub next : i .next .0 ≡ j .next .0 + b
 
