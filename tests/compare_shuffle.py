@@ -419,7 +419,8 @@ def compared_orders(case, moved_line=shuffles.moved_line):
 
 
 def compared_itself(case):
-    """(what, question, expected, seen): the words after the table's own tree are its own buffer's; the number, where it is known."""
+    """(what, question, expected, seen): the words after the table's own tree, or its items, are its own buffer's, where it has one; the
+    number, where it is known."""
     expected = shuffles.moved_line(case.line, [*range(case.asked.count)], lent_in(case.question))
     yield "not reordered", case.question, expected, shuffles.opened_like(expected, case.line)
     if case.known is not None:

@@ -39,7 +39,9 @@ words 70200005 8f800003 a0000000 80000005 a0000000 90000000 > "$out/ends.tree"
 words 10010020 20002010 00000000 00000000 31000020 > "$out/signed.table"
 words 10010020 20002010 00000000 00000000 32100020 > "$out/point.table"
 words 10010003 20000310 00000004 00000004 > "$out/early.table"      # ends before the field
-words 10010003 30000310 00000004 00000004 30000002 > "$out/head.table" # word 1 is no entry's head
+words 10010003 30000310 00000004 00000004 30000002 > "$out/head.table"  # word 1 is no entry's head
+words 10010003 20000310 00000004 00000005 30000002 > "$out/value.table" # a value outside its mask
+words 10010003 20000310 00000004 00000004 30000003 > "$out/field.table" # a field over the mask
 head -c 65540 /dev/zero > "$out/long.table"                         # 16,385 words
 words 70030003 81000004 a0000000 90000000 > "$out/damaged.tree"     # the one side is past the last node
 words 70030003 81000003 90000000 90000000 > "$out/other.tree"       # well formed, and another table's
@@ -105,6 +107,10 @@ status 1
 refused 2: the table ends early, after 4 words
 status 1
 refused 2: word 1 of the table is at fault
+status 1
+refused 3: word 2 of the table is at fault
+status 1
+refused 4: word 4 of the table is at fault
 status 1
 byte 0: entry 0 has no current
 status 1
@@ -322,13 +328,15 @@ simulator_runs() { # program
     run "$1" "$out/three.table" "$out/other.tree" "$out/seven.currents" "$out/three.image"
     run "$1" "$out/three.table" /dev/null "$out/seven.currents" "$out/three.image"
     run "$1" "$out/early.table" "$out/three.tree" "$out/seven.currents" "$out/three.image"
-    run "$1" "$out/head.table" "$out/three.tree" "$out/seven.currents" "$out/three.image"
+    local wrong
+    for wrong in head value field; do
+        run "$1" "$out/$wrong.table" "$out/three.tree" "$out/seven.currents" "$out/three.image"
+    done
     run "$1" "$out/three.table" "$out/three.tree" "$out/other.currents" "$out/three.image"
     run "$1" "$out/sixteen.table" "$out/sixteen.tree" "$out/seven.currents" "$out/three.image"  # the last word is not whole
     run "$1" "$out/three.table" "$out/cut.tree" "$out/seven.currents" "$out/three.image"
     run "$1" "$out/three.table" "$out/three.tree" "$out/seven.currents" "$out/no_such_file"
     run "$1" "$out/three.table" "$out/three.tree" "$out/seven.currents" "$out"                  # a folder
-    local wrong
     for wrong in twice text ten_digits five_digits minus minus_current alone three_numbers zero_byte over; do
         run "$1" "$out/three.table" "$out/three.tree" "$out/$wrong.currents" "$out/three.image"
     done
@@ -433,6 +441,8 @@ s/number == KILNUMBER_HIGH_WORD/number == 99/
 s/ended || account.refused != 0/ended/
 s/int ended = is_refused(kilnumber_check(.*/int ended = 0;/
 s/case KILNUMBER_WRONG_TREE/case 99/
+s/case KILNUMBER_TABLE_PATTERN:/case 99:/
+s/case KILNUMBER_TABLE_FIELD:/case 99:/
 s/kilnumber_list_place(result)/kilnumber_place(result)/
 s/place == table.count/0/
 s/if (bytes.count % 4 != 0)/if (0)/

@@ -36,9 +36,9 @@ def show(what, seconds, name_of=str):
 
 def main():
     proved, tested = (Path(name).read_text().splitlines() for name in sys.argv[1:])
-    show("proofs, two at a time", times_in(PROVED, proved)[0])
+    show("proofs, added up", times_in(PROVED, proved)[0])
     seconds, edits = times_in(REFUSED, proved)
-    show(f"{edits.total()} edits, two at a time", seconds, lambda crate: f"{crate} ({edits[crate]})")
+    show(f"{edits.total()} edits, added up", seconds, lambda crate: f"{crate} ({edits[crate]})")
     show(f"{len(tested)} tests", test_times(tested))
 
 

@@ -138,7 +138,8 @@ static void compare(const struct table *table, const uint8_t *bytes, size_t halv
     if (seen != expected) differs("a listing", table, bytes, halves, expected, seen);
     for (size_t at = 0; at < room; at++)
         if (items[at] != (at < wanted.count ? wanted.items[at] : MARK))
-            differs(at < wanted.count ? "an item" : "a word after the items", table, bytes, halves, wanted.items[at], items[at]);
+            differs(at < wanted.count ? "an item" : "a word after the items", table, bytes, halves,
+                    at < wanted.count ? wanted.items[at] : MARK, items[at]);
     require_unchanged(words, table->words, table->count);
     require_unchanged(tree, table->tree, table->nodes);
     if (memcmp(image, bytes, 2 * halves) != 0) differs("the image has changed", table, bytes, halves, 0, 0);

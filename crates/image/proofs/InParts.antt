@@ -159,8 +159,8 @@ module _ (es : List Entry) (image : List ℕ) (b : ℕ) (inside : b ≤ halfword
       ∙ on-moved (halfwords left) (record { 0 = 0 }) (omega arith)
       ∙ ap (map (λ (w : ℕ). w + b)) (sym (items-on es left))
 
--- ---- "Of each part but the final one drop the last item .. and begin the next part at its address": the items of the whole image are those of
--- the part but the last, then those of the image from that one's address on, listed by itself, with this address added
+-- ---- "Of each part but the final one drop the last item .. and begin the next part at that item's address": the items of the whole image are
+-- those of the part but the last, then those of the image from that one's address on, listed by itself, with this address added
 
 pub in-parts : (es : List Entry) (part rest : List ℕ) → halfwords part ≤ 2 ^ 20 → (sure : List ℕ) (last : ℕ) → items es part ≡ sure ++ (last ∷ [])
     → items es (part ++ rest) ≡ sure ++ map (λ (w : ℕ). w + bits 19 0 last) (items es (drop (2 * bits 19 0 last) (part ++ rest)))
