@@ -8,7 +8,7 @@
  *
  * Table and tree are files of words, low byte first; the image is bytes as they lie in flash, each halfword low byte first.
  *
- * It exits with 0 if all answers are the same, with 1 if one differs or something was refused, and with 2 if a file is no good.
+ * It exits with 0 if all answers are the same, with 1 if one differs or something was refused, and with 2 if a file is no good, or what is printed is lost.
  */
 
 #include <stdio.h>
@@ -52,5 +52,6 @@ int main(int arguments, char **argument) {
     free(tree.at);
     free(image.at);
     free(items);
+    finish_printing();
     return failed;
 }

@@ -1,4 +1,4 @@
-/* How the examples read their files: whole, or the program ends with status 2. */
+/* How the examples read their files, and print: whole, or the program ends with status 2. */
 
 #ifndef FILES_H
 #define FILES_H
@@ -21,6 +21,11 @@ struct words {
 static void stop(const char *name, const char *why) {
     fprintf(stderr, "%s: %s\n", name, why);
     exit(2);
+}
+
+/* Before the end: what was printed may still be lost, on a full device say. */
+static void finish_printing(void) {
+    if (fflush(stdout) != 0 || ferror(stdout)) stop("standard output", "can't be written");
 }
 
 static struct bytes read_file(const char *name) {

@@ -9,7 +9,7 @@
  * Table and tree are files of words, low byte first; the image is bytes as they lie in flash, each halfword low byte first.
  * `python3 data/make.py list avr` says which instruction an entry is. An image that is too long for one listing is listed in parts.
  *
- * It exits with 0 after a whole listing, with 1 if something was refused and with 2 if a file is no good.
+ * It exits with 0 after a whole listing, with 1 if something was refused and with 2 if a file is no good, or what is printed is lost.
  */
 
 #include <stdio.h>
@@ -63,5 +63,6 @@ int main(int arguments, char **argument) {
     free(tree.at);
     free(image.at);
     free(items);
+    finish_printing();
     return refused;
 }

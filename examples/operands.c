@@ -8,7 +8,7 @@
  * The table is a file of words, low byte first; the entry's number is decimal, the word hexadecimal. A line for each field, in the order
  * of the table. Whether the word selects that entry is not asked: a walk tells (examples/simulator.c).
  *
- * It exits with 0 after all operands, with 1 if something was refused and with 2 if a file or a number is no good.
+ * It exits with 0 after all operands, with 1 if something was refused and with 2 if a file or a number is no good, or what is printed is lost.
  */
 
 #include <stdio.h>
@@ -77,5 +77,6 @@ int main(int arguments, char **argument) {
     if (!failed && is_too_wide(table, word)) stop("word", "it has a bit at or above the table's width");
     if (!failed) print_operands(table, entry, word);
     free(table.at);
+    finish_printing();
     return failed;
 }

@@ -10,9 +10,9 @@
  * microamperes that it draws for its one cycle (those of the example are made up). The image holds one word after another, low
  * byte first, each of as many bytes as the tree's width needs: 1, 2 or 4.
  *
- * It exits with 0 after a whole account, with 1 if something was refused or an entry that is met has no current, and with 2 if a file is
- * no good: then it names the file, and of the currents the line. (examples/lister.c has the other way: instructions of 16 and 32 bits, listed
- * at once.)
+ * It exits with 0 after a whole account, with 1 if something was refused or an entry that is met has no current, and with 2 if what is
+ * printed is lost or a file is no good: then it names the file, and of the currents the line. (examples/lister.c has the other way:
+ * instructions of 16 and 32 bits, listed at once.)
  */
 
 #include <stdio.h>
@@ -131,5 +131,6 @@ int main(int arguments, char **argument) {
     free(table.at);
     free(tree.at);
     free(image.at);
+    finish_printing();
     return ended || account.refused != 0;
 }

@@ -144,6 +144,8 @@ target/examples/over.currents:1: no entry's number at its start (a line has an e
 status 2
 usage: simulator table tree currents image
 status 2
+standard output: can't be written
+status 2
 END
 
 cat > "$out/lister.expected" <<'END'
@@ -194,6 +196,8 @@ target/examples/cut.tree: not whole words
 status 2
 target/examples: can't be read
 status 2
+standard output: can't be written
+status 2
 END
 
 # Lines where the first part ends, and the last one.
@@ -237,6 +241,8 @@ status 1
 target/examples/cut.tree: not whole words
 status 2
 target/examples: can't be read
+status 2
+standard output: can't be written
 status 2
 END
 
@@ -309,6 +315,8 @@ target/examples/cut.tree: not whole words
 status 2
 usage: operands table entry word
 status 2
+standard output: can't be written
+status 2
 END
 
 run() { # program, its files
@@ -316,6 +324,10 @@ run() { # program, its files
     ASAN_OPTIONS=allocator_may_return_null=1 timeout 60 "$@" 2> "$out/stderr" || status=$?
     if [ -s "$out/stderr" ]; then sed '/^==/d' "$out/stderr"; fi # without the sanitizer's warning of memory that there isn't, for a folder
     echo "status $status"
+}
+
+run_full() { # program, its files: on a full device
+    run sh -c 'exec "$@" > /dev/full' sh "$@"
 }
 
 simulator_runs() { # program
@@ -341,6 +353,7 @@ simulator_runs() { # program
         run "$1" "$out/three.table" "$out/three.tree" "$out/$wrong.currents" "$out/three.image"
     done
     run "$1" "$out/three.table"
+    run_full "$1" "$out/three.table" "$out/three.tree" "$out/seven.currents" /dev/null
 }
 
 lister_runs() { # program
@@ -355,6 +368,7 @@ lister_runs() { # program
     run "$1" "$out/long.table" "$out/three.tree" examples/avr.image
     run "$1" data/avr.table "$out/cut.tree" examples/avr.image
     run "$1" data/avr.table "$out/avr.tree" "$out"
+    run_full "$1" data/avr.table "$out/avr.tree" examples/avr.image
 }
 
 lister_long_runs() { # program
@@ -375,6 +389,7 @@ cache_runs() { # program
     run "$1" "$out/early.table" "$out/three.tree" examples/avr.image
     run "$1" data/avr.table "$out/cut.tree" examples/avr.image
     run "$1" data/avr.table "$out/avr.tree" "$out"
+    run_full "$1" data/avr.table "$out/avr.tree" examples/avr.image
 }
 
 operands_runs() { # program
@@ -405,6 +420,7 @@ operands_runs() { # program
     run "$1" data/avr.table 0 ''
     run "$1" "$out/cut.tree" 0 0
     run "$1" data/avr.table 0
+    run_full "$1" data/buoy.table 23 e412f800
 }
 
 try_example() { # name, its runs; standard input: an edit a line, each of which makes one thing wrong, so that the lines must differ
@@ -446,6 +462,7 @@ s/case KILNUMBER_TABLE_FIELD:/case 99:/
 s/kilnumber_list_place(result)/kilnumber_place(result)/
 s/place == table.count/0/
 s/if (bytes.count % 4 != 0)/if (0)/
+s/fflush(stdout) != 0 || ferror(stdout)/0/
 s/if (image.count % size != 0)/if (0)/
 s/if (account->has_current\[entry\]) return.*//
 s/if (!skip_blanks(&line)) return.*//
@@ -486,6 +503,7 @@ s/case KILNUMBER_BAD_IMAGE/case 99/
 s/case KILNUMBER_NO_IMAGE_TABLE/case 99/
 s/table.count > KILNUMBER_MOST_TABLE_WORDS/0/
 s/if (bytes.count % 4 != 0)/if (0)/
+s/fflush(stdout) != 0 || ferror(stdout)/0/
 s/part\[2 \* at + 1\], part\[2 \* at\]/part[2 * at], part[2 * at + 1]/
 END
 try_example lister lister_long <<'END'
@@ -512,6 +530,7 @@ s/count - cache.misses/count/
 s/is_refused(result, table) || //
 s/return failed;/return 0;/
 s/if (bytes.count % 4 != 0)/if (0)/
+s/fflush(stdout) != 0 || ferror(stdout)/0/
 END
 
 try_example operands operands <<'END'
@@ -540,6 +559,7 @@ s/text.at += 2;/;/
 s/, 16, "word"/, 10, "word"/
 s/place == table.count/0/
 s/if (bytes.count % 4 != 0)/if (0)/
+s/fflush(stdout) != 0 || ferror(stdout)/0/
 END
 
 # The cache's program must tell of a cache that is wrong: a slot that any word hits.
