@@ -1,4 +1,6 @@
 // Headers and nodes of a tree in its written form, in any words.
+#![tactic(auto)]
+
 ghost use Rattle.std.specs.Prelude.{◌≡◌, ℕ, ◌+◌, ◌≤◌, ◌<◌};
 ghost use Rattle.flat.specs.Nodes.{header_rest, header_of, test_node, names_node, nothing_node, node_of, HeaderBounds, NodeBounds};
 

@@ -1,4 +1,6 @@
 // Reads a pattern table: the first fault, numbers 1 to 4, or its width, its number of entries and each entry's place.
+#![tactic(auto)]
+
 ghost use Rattle.std.specs.Prelude.{◌≡◌, ℕ, ◌+◌, ◌*◌, ◌≤◌, ◌<◌, ◌^◌, length, get_or};
 ghost use Rattle.words.specs.Outcome.{cause_of};
 ghost use Rattle.table.specs.Table.{field_low, field_width, field_bits, own_bits, condition_end, conditions_end, has_cycles, cycles_at, fields_place, conditions_place, entry_end};

@@ -1,4 +1,6 @@
 // Leaves on 32-bit words, total, for every other crate.
+#![tactic(auto)]
+
 ghost use Rattle.std.specs.Prelude.{◌≡◌, ℕ, ◌+◌, ◌*◌, ◌%◌, ◌^◌, ◌≤◌, min, ltb, length};
 ghost use Rattle.words.specs.Words.{word, part as part_of, run as run_of};
 ghost use Rattle.words.specs.Bytes.{word_of, words_of, Fills, is_table};

@@ -1,0 +1,33 @@
+use mathlib.Core.Path.{◌≡◌, refl, sym, ap, ap₂, ◌∙◌}
+use Prim.Native.Nat.{ℕ, ◌+◌, ◌/◌, ◌^◌, ◌≤◌, ◌<◌}
+use native.Mathlib.Omega.{arith}
+use borrow.Author.Tests.{eq-eqb, ne_eqb, lt-ltb, le-ltb, le-leb, lt-leb}
+use borrow.Author.Rules.{rules}
+use Rattle.words.specs.Tests.{◌and◌}
+use Rattle.words.specs.Words.{part}
+use Rattle.words.proofs.Parts.{part_mask, part_low, part_top, part_lt}
+use Rattle.flat.specs.Nodes.{node_of}
+use Rattle.flat.proofs.node_of.Goals as goal
+
+pub returns-in-8 : goal.returns-in-8
+unfolding node_of
+returns-in-8 c =
+    let a = c.args in
+    let k : a.word / 2 ^ 28 ≡ part a.word 28 4 = part_top a.word (omega arith) in
+    record { value = rw (eq-eqb (part a.word 28 4) 8 (sym k ∙ c.in-8.is)) c.test_node.ensures.value; bounds = c.test_node.ensures.bounds }
+
+pub returns-in-9 : goal.returns-in-9
+unfolding node_of
+returns-in-9 c =
+    let a = c.args in
+    let k : a.word / 2 ^ 28 ≡ part a.word 28 4 = part_top a.word (omega arith) in
+    let q = sym k ∙ c.in-9.is in
+    record { value = rw (ne_eqb (part a.word 28 4) 8 (λ e. omega arith), eq-eqb (part a.word 28 4) 9 q) c.names_node.ensures.value; bounds = c.names_node.ensures.bounds _ _ _ }
+
+pub returns-in-10 : goal.returns-in-10
+unfolding node_of
+returns-in-10 c =
+    let a = c.args in
+    let k : a.word / 2 ^ 28 ≡ part a.word 28 4 = part_top a.word (omega arith) in
+    let q = sym k ∙ c.in-10.is in
+    record { value = rw (ne_eqb (part a.word 28 4) 8 (λ e. omega arith), ne_eqb (part a.word 28 4) 9 (λ e. omega arith), eq-eqb (part a.word 28 4) 10 q) c.nothing_node.ensures.value; bounds = c.nothing_node.ensures.bounds _ _ _ }
