@@ -1,4 +1,6 @@
 // The most-specific rule: which of the entries that are live in a cell decides it. A word is the cell that fixes every bit.
+#![tactic(auto)]
+
 ghost use Rattle.std.specs.Prelude.{◌≡◌, ◌≤◌, ◌<◌, min};
 ghost use Rattle.table.specs.Table.{entry_at};
 ghost use Rattle.choice.specs.Rule.{more_specific, gives_way, beats_at, judge_at};

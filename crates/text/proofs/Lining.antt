@@ -1,14 +1,14 @@
 -- Laws of a line that is made apart, text after text. Assumes nothing.
 use Prim.Native.Nat.{ℕ, zero, suc, ◌+◌, ◌/◌, ◌^◌, ◌≤◌, ◌<◌}
 use mathlib.Core.Path.{◌≡◌, refl, ◌∙◌}
-use mathlib.Core.List.{List, [], ◌∷◌, ◌++◌, append_assoc}
+use mathlib.Core.List.{List, [], ◌++◌}
 use native.Mathlib.Nat.{pow-suc}
 use native.Mathlib.Omega.{arith}
 use lib.ListN.{length, take, drop, length-append, length-take}
 use lib.Seq.{take_at}
 use borrow.Author.Tests.{le-leb}
 use Rattle.text.specs.Digits.{digits_of, decimal_text, hex_digits, hex_text}
-use Rattle.text.specs.Lines.{space, newline, line, refused_text, tree_line, refusal_line}
+use Rattle.text.specs.Lines.{space, newline, refused_text, tree_line, refusal_line}
 use Rattle.text.specs.Buffer.{has_place, put_at, place_after, Puts}
 use Rattle.text.proofs.Putting.{same_size}
 
@@ -67,49 +67,37 @@ goes_on {size} {most} {at} {answer} {before} {so_far} {text} {after} k b p h roo
 pub begins_within : {size most at : ℕ} {buffer text : List ℕ} → Begins size most buffer text at → most ≤ size → at ≤ length buffer
 begins_within b h = omega (arith, b.whole, b.short)
 
--- a number and the byte after it
-pub number_line : (n b : ℕ) {a end : ℕ} {l l1 line : List ℕ} → length l ≡ 11 → n < 2 ^ 32
-    → Puts l 0 (decimal_text n) l1 a
-    → Puts l1 a (b ∷ []) line end
-    → Begins 11 11 line (decimal_text n ++ (b ∷ [])) end
-number_line n b {l = l} h i p q = goes_on 1 (goes_on 10 (begun l h) p (decimal_room n i) (omega arith)) q (omega arith) (omega arith)
-
--- so it has eleven bytes at most
-pub number_room : (n b : ℕ) → n < 2 ^ 32 → length (decimal_text n ++ (b ∷ [])) ≤ 11
-number_room n b h = simp length-append (omega (arith, decimal_room n h))
-
 -- the line of a tree's word
-pub tree_line_lem : (index word : ℕ) {a b end : ℕ} {l l1 l2 line : List ℕ} → length l ≡ 20 → index < 2 ^ 32
-    → Puts l 0 (decimal_text index ++ space) l1 a
-    → Puts l1 a (hex_text word) l2 b
-    → Puts l2 b newline line end
+pub tree_line_lem : (index word : ℕ) {a b c end : ℕ} {l l1 l2 l3 line : List ℕ} → length l ≡ 20 → index < 2 ^ 32
+    → Puts l 0 (decimal_text index) l1 a
+    → Puts l1 a space l2 b
+    → Puts l2 b (hex_text word) l3 c
+    → Puts l3 c newline line end
     → Begins 20 20 line (tree_line index word) end
-unfolding tree_line line
-tree_line_lem index word {l = l} h i p q r =
-    let e : decimal_text index ++ space ++ hex_text word ++ newline ≡ tree_line index word = simp append_assoc in
-    let x = goes_on 11 (begun l h) p (number_room index 32 i) (omega arith) in
-    let y = goes_on 8 x q (hex_room word) (omega arith) in
-    rw e at (goes_on 1 y r (omega arith) (omega arith))
+unfolding tree_line
+tree_line_lem index word {l = l} h i p q r s =
+    let x = goes_on 10 (begun l h) p (decimal_room index i) (omega arith) in
+    let y = goes_on 1 x q (omega arith) (omega arith) in
+    let z = goes_on 8 y r (hex_room word) (omega arith) in
+    goes_on 1 z s (omega arith) (omega arith)
 
 -- the line of a refusal
-pub refusal_line_lem : (number place word : ℕ) {a b c d end : ℕ} {l l1 l2 l3 l4 line : List ℕ}
+pub refusal_line_lem : (number place word : ℕ) {a b c d e f end : ℕ} {l l1 l2 l3 l4 l5 l6 line : List ℕ}
     → length l ≡ 39 → number < 2 ^ 32 → place < 2 ^ 32
-    → Puts l 0 (refused_text ++ space) l1 a
-    → Puts l1 a (decimal_text number ++ space) l2 b
-    → Puts l2 b (decimal_text place ++ space) l3 c
-    → Puts l3 c (hex_text word) l4 d
-    → Puts l4 d newline line end
+    → Puts l 0 refused_text l1 a
+    → Puts l1 a (decimal_text number) l2 b
+    → Puts l2 b space l3 c
+    → Puts l3 c (decimal_text place) l4 d
+    → Puts l4 d space l5 e
+    → Puts l5 e (hex_text word) l6 f
+    → Puts l6 f newline line end
     → Begins 39 39 line (refusal_line number place word) end
-unfolding refusal_line line
-refusal_line_lem number place word {l = l} h i j p q r s t =
-    let e : refused_text ++ space ++ (decimal_text number ++ space) ++ (decimal_text place ++ space) ++ hex_text word ++ newline ≡ refusal_line number place word = simp append_assoc in
+unfolding refusal_line
+refusal_line_lem number place word {l = l} h i j p q r s t u v =
     let b = goes_on 8 (begun l h) p (omega arith) (omega arith) in
-    let m = goes_on 11 b q (number_room number 32 i) (omega arith) in
-    let n = goes_on 11 m r (number_room place 32 j) (omega arith) in
-    let o = goes_on 8 n s (hex_room word) (omega arith) in
-    rw e at (goes_on 1 o t (omega arith) (omega arith))
-
--- and its room
-pub refusal_room : (number place word : ℕ) → number < 2 ^ 32 → place < 2 ^ 32 → length (refusal_line number place word) ≤ 39
-unfolding refusal_line line
-refusal_room number place word i j = simp length-append (omega (arith, decimal_room number i, decimal_room place j, hex_room word))
+    let m = goes_on 10 b q (decimal_room number i) (omega arith) in
+    let n = goes_on 1 m r (omega arith) (omega arith) in
+    let o = goes_on 10 n s (decimal_room place j) (omega arith) in
+    let x = goes_on 1 o t (omega arith) (omega arith) in
+    let y = goes_on 8 x u (hex_room word) (omega arith) in
+    goes_on 1 y v (omega arith) (omega arith)

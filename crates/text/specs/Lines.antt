@@ -1,4 +1,4 @@
--- The lines that programs print.
+-- The lines that `mktree` prints.
 use Rattle.std.specs.Prelude.{ℕ, List, [], ◌∷◌, ◌++◌}
 use Rattle.text.specs.Digits.{decimal_text, hex_text}
 
@@ -9,20 +9,15 @@ space = 32 ∷ []
 abbrev pub newline : List ℕ
 newline = 10 ∷ []
 
--- a line: texts "parted by spaces", and its end
-unfoldable pub line : List (List ℕ) → List ℕ
-line [] = newline
-line (t ∷ []) = t ++ newline
-line (t ∷ u ∷ us) = t ++ space ++ line (u ∷ us)
-
--- `refused`
+-- `refused` and a space
 abbrev pub refused_text : List ℕ
-refused_text = 114 ∷ 101 ∷ 102 ∷ 117 ∷ 115 ∷ 101 ∷ 100 ∷ []
+refused_text = 114 ∷ 101 ∷ 102 ∷ 117 ∷ 115 ∷ 101 ∷ 100 ∷ 32 ∷ []
 
--- a word of a tree: its index in decimal, and the word in hexadecimal
+-- a word of a tree: its index in decimal, a space, and the word in hexadecimal
 unfoldable pub tree_line : ℕ → ℕ → List ℕ
-tree_line index word = line (decimal_text index ∷ hex_text word ∷ [])
+tree_line index word = decimal_text index ++ space ++ hex_text word ++ newline
 
 -- a refusal: its number and place in decimal, and the word in hexadecimal
 unfoldable pub refusal_line : ℕ → ℕ → ℕ → List ℕ
-refusal_line number place word = line (refused_text ∷ decimal_text number ∷ decimal_text place ∷ hex_text word ∷ [])
+refusal_line number place word =
+    refused_text ++ decimal_text number ++ space ++ decimal_text place ++ space ++ hex_text word ++ newline

@@ -1,7 +1,9 @@
 // What the programs print, as bytes in a lent buffer. Every function writes its text at an index
 // and answers the index after it; where the text does not fit, it writes nothing and answers the
 // index that it was given.
-ghost use Rattle.std.specs.Prelude.{◌≡◌, [], ◌∷◌, ◌++◌, ◌+◌, ◌%◌, ◌≤◌, length, drop};
+#![tactic(auto)]
+
+ghost use Rattle.std.specs.Prelude.{◌≡◌, [], ◌∷◌, ◌+◌, ◌%◌, ◌≤◌, length, drop};
 ghost use Rattle.std.proofs.Math.Seq.{paste};
 ghost use Rattle.text.specs.Digits.{digit_of, decimal_text, hex_text};
 ghost use Rattle.text.specs.Lines.{tree_line, refusal_line};
@@ -66,19 +68,6 @@ pub fn put_decimal(out: &mut [u8], at: usize, n: u32) -> usize
     put_bytes(out, at, &digits[first..])
 }
 
-// The longest number, and the byte after it.
-const NUMBER: usize = 11;
-
-// A number in decimal and a byte after it, such as a space or the line's end, made apart so that both are written or neither.
-pub fn put_number(out: &mut [u8], at: usize, n: u32, end: u8) -> usize
-    ensures { Puts out.old at (decimal_text n ++ (end ∷ [])) out.new result }
-{
-    let mut line = [0u8; NUMBER];
-    let first = put_decimal(&mut line, 0, n);
-    let last = put_byte(&mut line, first, end);
-    put_bytes(out, at, &line[..last])
-}
-
 // The last hexadecimal digit of a word.
 fn digit(w: u32) -> u8
     ensures { result ≡ digit_of (w % 16) }
@@ -113,9 +102,10 @@ pub fn put_tree_line(out: &mut [u8], at: usize, index: u32, word: u32) -> usize
     ensures { Puts out.old at (tree_line index word) out.new result }
 {
     let mut line = [0u8; TREE_LINE];
-    let first = put_number(&mut line, 0, index, b' ');
-    let second = put_hex(&mut line, first, word);
-    let end = put_byte(&mut line, second, b'\n');
+    let first = put_decimal(&mut line, 0, index);
+    let second = put_byte(&mut line, first, b' ');
+    let third = put_hex(&mut line, second, word);
+    let end = put_byte(&mut line, third, b'\n');
     put_bytes(out, at, &line[..end])
 }
 
@@ -129,9 +119,11 @@ pub fn put_refusal(out: &mut [u8], at: usize, number: u32, place: u32, word: u32
 {
     let mut line = [0u8; REFUSAL_LINE];
     let first = put_bytes(&mut line, 0, b"refused ");
-    let second = put_number(&mut line, first, number, b' ');
-    let third = put_number(&mut line, second, place, b' ');
-    let fourth = put_hex(&mut line, third, word);
-    let end = put_byte(&mut line, fourth, b'\n');
+    let second = put_decimal(&mut line, first, number);
+    let third = put_byte(&mut line, second, b' ');
+    let fourth = put_decimal(&mut line, third, place);
+    let fifth = put_byte(&mut line, fourth, b' ');
+    let sixth = put_hex(&mut line, fifth, word);
+    let end = put_byte(&mut line, sixth, b'\n');
     put_bytes(out, at, &line[..end])
 }
