@@ -1,4 +1,6 @@
 // Selection: which entry of a table a word selects.
+#![tactic(auto)]
+
 ghost use Rattle.std.specs.Prelude.{◌≡◌, ℕ, ◌≤◌, ◌<◌, ◌^◌, min, get_or, true, false};
 ghost use Rattle.words.specs.Outcome.{cause_of};
 ghost use Rattle.words.specs.Tests.{any_of};

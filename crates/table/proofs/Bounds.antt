@@ -4,11 +4,13 @@ use mathlib.Core.Bool.{Bool, true, false}
 use mathlib.Core.List.{List}
 use Prim.Native.Nat.{ℕ, zero, suc, ◌+◌, ◌≤◌, zero-le}
 use native.Mathlib.Omega.{arith}
+use lib.Bits.{bit_or}
 use lib.ListN.{length}
 use borrow.Author.Tests.{leb-false}
 use Rattle.words.specs.Outcome.{faulty}
 use Rattle.words.proofs.Logic.{cases}
-use Rattle.table.specs.Table.{Table, condition_end, has_cycles, fields_place, entry_end, table_of}
+use Rattle.words.specs.Words.{word}
+use Rattle.table.specs.Table.{Table, field_bits, condition_end, has_cycles, fields_place, entry_end, table_of}
 use Rattle.table.specs.Check.{Check, fine, fault, ◌then◌, need, has, pattern_check, unmatching_check, unmatchings_check, condition_check, conditions_check, field_word, field_rule, field_check, fields_check, head_check, cycles_check, entry_check, entries_check, first_check, table_check, table_fault, reading, read_table}
 use Rattle.table.proofs.Laws.{has_fits, head_fits}
 
@@ -75,7 +77,7 @@ module _ (ws : List ℕ) where
     near_fields : (e used n p : ℕ) → e ≤ length ws → Near (length ws) (fields_check ws e width size used n p)
     unfolding fields_check
     near_fields e used zero p h = last _ _ _ _ refl h
-    near_fields e used (suc n) p h = near_then _ _ _ (near_field used p) (λ t. near_fields e _ n (p + 1) h)
+    near_fields e used (suc n) p h = near_then _ _ _ (near_field used p) (λ t. near_fields e (bit_or used (field_bits (word ws p))) n (p + 1) h)
 
   module _ (width : ℕ) where
     near_head : (p : ℕ) → Near (length ws) (head_check ws width p)

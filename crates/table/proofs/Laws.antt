@@ -287,7 +287,7 @@ module _ (ws : List ℕ) (e width size : ℕ) where
   unfolding fields_check
   fields_fit used zero p h t = omega arith
   fields_fit used (suc n) p h t =
-      omega (arith, fields_fit _ n (p + 1) (field_fits ws width size used p (then_l _ _ t)) (then_r _ _ t))
+      omega (arith, fields_fit (bit_or used (field_bits (word ws p))) n (p + 1) (field_fits ws width size used p (then_l _ _ t)) (then_r _ _ t))
 
 pub conditions_fit : (ws : List ℕ) (own n p : ℕ) → p ≤ length ws → conditions_check ws own n p ≡ fine → conditions_end ws n p ≤ length ws
 unfolding conditions_check conditions_end

@@ -1,4 +1,6 @@
 // Walking a tree in its written form, given as words or as bytes. Nothing copies the tree: the cost is that of the path.
+#![tactic(auto)]
+
 ghost use Rattle.std.specs.Prelude.{◌≡◌, ℕ, ◌≤◌, ◌<◌};
 ghost use Rattle.words.specs.Bytes.{words_of};
 ghost use Rattle.words.specs.Outcome.{cause_of};

@@ -1,8 +1,7 @@
-use mathlib.Core.Path.{◌≡◌, refl, sym, ap, ap₂, ◌∙◌}
-use Prim.Native.Nat.{ℕ, ◌+◌, ◌≤◌, ◌<◌}
+use mathlib.Core.Path.{sym, ap₂, ◌∙◌}
+use Prim.Native.Nat.{ℕ}
 use native.Mathlib.Omega.{arith}
-use borrow.Author.Tests.{eq-eqb, ne_eqb, lt-ltb, le-ltb, le-leb, lt-leb}
-use borrow.Author.Rules.{rules}
+use borrow.Author.Tests.{eq-eqb, ne_eqb}
 use Rattle.words.specs.Tests.{◌and◌}
 use Rattle.words.specs.Words.{part}
 use Rattle.words.proofs.Parts.{part_mask, part_low, part_top, part_lt}
@@ -27,5 +26,8 @@ header_rest-requires c = let x = c.args.first in omega (arith, part_low x 16, pa
 pub returns : goal.returns
 unfolding header_of ◌and◌
 returns c =
-    let x = c.args.first in record { value = rw (eq-eqb (part x 28 4) 7 (sym (part_top x (omega arith)) ∙ c.if-kind-ne7.false), eq-eqb (part x 22 6) 0 (sym (part_mask x 22 6) ∙ c.if-spare-ne0.false))
-          (c.header_rest.ensures.value ∙ ap₂ (λ (v n : ℕ). header_rest v n c.args.words) (part_mask x 16 6) (part_low x 16)); bounds = c.header_rest.ensures.bounds }
+    let x = c.args.first in record {
+      value = rw (eq-eqb (part x 28 4) 7 (sym (part_top x (omega arith)) ∙ c.if-kind-ne7.false), eq-eqb (part x 22 6) 0 (sym (part_mask x 22 6) ∙ c.if-spare-ne0.false))
+          (c.header_rest.ensures.value ∙ ap₂ (λ (v n : ℕ). header_rest v n c.args.words) (part_mask x 16 6) (part_low x 16));
+      bounds = c.header_rest.ensures.bounds;
+    }

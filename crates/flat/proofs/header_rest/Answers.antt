@@ -1,11 +1,6 @@
-use mathlib.Core.Path.{◌≡◌, refl, sym, ap, ap₂, ◌∙◌}
-use Prim.Native.Nat.{ℕ, ◌+◌, ◌≤◌, ◌<◌}
 use native.Mathlib.Omega.{arith}
-use borrow.Author.Tests.{eq-eqb, ne_eqb, lt-ltb, le-ltb, le-leb, lt-leb}
-use borrow.Author.Rules.{rules}
+use borrow.Author.Tests.{lt-ltb, le-ltb, le-leb, lt-leb}
 use Rattle.words.specs.Tests.{◌and◌}
-use Rattle.words.specs.Words.{part}
-use Rattle.words.proofs.Parts.{part_mask, part_low, part_top, part_lt}
 use Rattle.flat.specs.Nodes.{header_rest}
 use Rattle.flat.proofs.header_rest.Goals as goal
 

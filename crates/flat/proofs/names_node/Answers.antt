@@ -1,11 +1,8 @@
-use mathlib.Core.Path.{◌≡◌, refl, sym, ap, ap₂, ◌∙◌}
-use Prim.Native.Nat.{ℕ, ◌+◌, ◌≤◌, ◌<◌}
+use mathlib.Core.Path.{sym, ap, ◌∙◌}
 use native.Mathlib.Omega.{arith}
-use borrow.Author.Tests.{eq-eqb, ne_eqb, lt-ltb, le-ltb, le-leb, lt-leb}
-use borrow.Author.Rules.{rules}
-use Rattle.words.specs.Tests.{◌and◌}
+use borrow.Author.Tests.{eq-eqb, ne_eqb}
 use Rattle.words.specs.Words.{part}
-use Rattle.words.proofs.Parts.{part_mask, part_low, part_top, part_lt}
+use Rattle.words.proofs.Parts.{part_mask, part_low, part_lt}
 use Rattle.flat.specs.Nodes.{names_node}
 use Rattle.flat.specs.declared.Node.TheVariants.{Names}
 use Rattle.flat.proofs.names_node.Goals as goal

@@ -1,11 +1,9 @@
-use mathlib.Core.Path.{◌≡◌, refl, sym, ap, ap₂, ◌∙◌}
-use Prim.Native.Nat.{ℕ, ◌+◌, ◌/◌, ◌^◌, ◌≤◌, ◌<◌}
+use mathlib.Core.Path.{◌≡◌, sym, ◌∙◌}
+use Prim.Native.Nat.{◌/◌, ◌^◌}
 use native.Mathlib.Omega.{arith}
-use borrow.Author.Tests.{eq-eqb, ne_eqb, lt-ltb, le-ltb, le-leb, lt-leb}
-use borrow.Author.Rules.{rules}
-use Rattle.words.specs.Tests.{◌and◌}
+use borrow.Author.Tests.{eq-eqb, ne_eqb}
 use Rattle.words.specs.Words.{part}
-use Rattle.words.proofs.Parts.{part_mask, part_low, part_top, part_lt}
+use Rattle.words.proofs.Parts.{part_top}
 use Rattle.flat.specs.Nodes.{node_of}
 use Rattle.flat.proofs.node_of.Goals as goal
 
@@ -31,3 +29,10 @@ returns-in-10 c =
     let k : a.word / 2 ^ 28 ≡ part a.word 28 4 = part_top a.word (omega arith) in
     let q = sym k ∙ c.in-10.is in
     record { value = rw (ne_eqb (part a.word 28 4) 8 (λ e. omega arith), ne_eqb (part a.word 28 4) 9 (λ e. omega arith), eq-eqb (part a.word 28 4) 10 q) c.nothing_node.ensures.value; bounds = c.nothing_node.ensures.bounds _ _ _ }
+
+pub returns-in-0-to-7-clause-value : goal.returns-in-0-to-7-clause-value
+unfolding node_of
+returns-in-0-to-7-clause-value c =
+    let a = c.args in
+    let k : a.word / 2 ^ 28 ≡ part a.word 28 4 = part_top a.word (omega arith) in
+    rw (ne_eqb (part a.word 28 4) 8 (λ e. omega arith), ne_eqb (part a.word 28 4) 9 (λ e. omega arith), ne_eqb (part a.word 28 4) 10 (λ e. omega arith))

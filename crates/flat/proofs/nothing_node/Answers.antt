@@ -1,11 +1,7 @@
-use mathlib.Core.Path.{◌≡◌, refl, sym, ap, ap₂, ◌∙◌}
-use Prim.Native.Nat.{ℕ, ◌+◌, ◌≤◌, ◌<◌}
-use native.Mathlib.Omega.{arith}
-use borrow.Author.Tests.{eq-eqb, ne_eqb, lt-ltb, le-ltb, le-leb, lt-leb}
-use borrow.Author.Rules.{rules}
-use Rattle.words.specs.Tests.{◌and◌}
+use mathlib.Core.Path.{sym, ◌∙◌}
+use borrow.Author.Tests.{eq-eqb, ne_eqb}
 use Rattle.words.specs.Words.{part}
-use Rattle.words.proofs.Parts.{part_mask, part_low, part_top, part_lt}
+use Rattle.words.proofs.Parts.{part_low}
 use Rattle.flat.specs.Nodes.{nothing_node}
 use Rattle.flat.proofs.nothing_node.Goals as goal
 

@@ -1,11 +1,10 @@
-use mathlib.Core.Path.{◌≡◌, refl, sym, ap, ap₂, ◌∙◌}
-use Prim.Native.Nat.{ℕ, ◌+◌, ◌≤◌, ◌<◌}
+use mathlib.Core.Path.{sym, ap₂, ◌∙◌}
+use Prim.Native.Nat.{◌+◌}
 use native.Mathlib.Omega.{arith}
 use borrow.Author.Tests.{eq-eqb, ne_eqb, lt-ltb, le-ltb, le-leb, lt-leb}
-use borrow.Author.Rules.{rules}
 use Rattle.words.specs.Tests.{◌and◌}
 use Rattle.words.specs.Words.{part}
-use Rattle.words.proofs.Parts.{part_mask, part_low, part_top, part_lt}
+use Rattle.words.proofs.Parts.{part_mask, part_low, part_lt}
 use Rattle.flat.specs.Nodes.{test_node}
 use Rattle.flat.specs.declared.Node.TheVariants.{Asks}
 use Rattle.flat.proofs.test_node.Goals as goal
@@ -55,5 +54,8 @@ returns c =
     let a = c.args in
     let s = part_mask a.word 16 7 in
     let b = part_mask a.word 23 5 in
-    let o = part_low a.word 16 in record { value = rw (eq-eqb (part a.word 16 7) 0 (sym s ∙ c.if-spare-ne0.false), lt-ltb (part a.word 23 5) a.width (omega arith), le-leb (a.at + 2) (part a.word 0 16) (omega arith), le-leb (part a.word 0 16) a.nodes (omega arith))
-          (ap₂ Asks b o); bounds = (omega arith, omega (arith, part_lt a.word 23 5), omega arith, omega arith, omega (arith, part_lt a.word 0 16)) }
+    let o = part_low a.word 16 in record {
+      value = rw (eq-eqb (part a.word 16 7) 0 (sym s ∙ c.if-spare-ne0.false), lt-ltb (part a.word 23 5) a.width (omega arith), le-leb (a.at + 2) (part a.word 0 16) (omega arith), le-leb (part a.word 0 16) a.nodes (omega arith))
+          (ap₂ Asks b o);
+      bounds = (omega arith, omega (arith, part_lt a.word 23 5), omega arith, omega arith, omega (arith, part_lt a.word 0 16));
+    }

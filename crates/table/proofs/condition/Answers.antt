@@ -9,13 +9,6 @@ use borrow.Author.Tests.{lt-leb, le-leb, eq-eqb, ne_eqb}
 use borrow.Author.Rules.{rules}
 use Rattle.table.proofs.condition.Goals as goal
 
--- where the head word is right, what is left are its patterns
-head-fine : (c : tie.Else3) → let a = c.args in
-    condition_check a.ws.now a.own_val a.p
-    ≡ pattern_check a.ws.now a.own_val (a.p + 1) then unmatchings_check a.ws.now a.own_val (unmatching_of (word a.ws.now a.p)) (a.p + 3)
-unfolding condition_check
-head-fine c = simp (le-leb _ _ c.if-ws-p.false, ← c.part-kind.ensures, eq-eqb _ _ c.in-4.keys1, ← c.part.ensures, eq-eqb _ _ c.if-part-ne0.false, ← c.part-n.ensures, le-leb _ _ c.if-n-gt8.false, checks)
-
 pub returns-then-ws-p : goal.returns-then-ws-p
 unfolding condition_check
 returns-then-ws-p c = simp (lt-leb _ _ c.if-ws-p.true, checks)
@@ -31,10 +24,24 @@ returns-then-n-gt8 c = simp (le-leb _ _ c.if-ws-p.false, ← c.part-kind.ensures
 pub unmatchings-requires : goal.unmatchings-requires
 unmatchings-requires c = pattern_next _ _ _ _ (sym c.pattern.ensures ∙ c.in-Next.is)
 
+-- where the head word is right, what is left are its patterns
 pub returns-in-Next : goal.returns-in-Next
+unfolding condition_check
 returns-in-Next c =
-    rw (head-fine c)
+    let h : condition_check c.args.ws.now c.args.own c.args.p
+    ≡ pattern_check c.args.ws.now c.args.own (c.args.p + 1) then unmatchings_check c.args.ws.now c.args.own (unmatching_of (word c.args.ws.now c.args.p)) (c.args.p + 3)
+    = simp (le-leb _ _ c.if-ws-p.false, ← c.part-kind.ensures, eq-eqb _ _ c.in-4.is, ← c.part.ensures, eq-eqb _ _ c.if-part-ne0.false, ← c.part-n.ensures, le-leb _ _ c.if-n-gt8.false, checks) in
+    rw h
     (patterns_on _ _ _ _ _ _ _ (sym c.pattern.ensures ∙ c.in-Next.is) c.part-n.ensures c.unmatchings.ensures)
 
 pub returns-in-Fault : goal.returns-in-Fault
-returns-in-Fault c = rw (head-fine c) (step_fault _ _ _ _ _ _ (sym c.pattern.ensures ∙ c.in-Fault.is))
+unfolding condition_check
+returns-in-Fault c =
+    let h : condition_check c.args.ws.now c.args.own c.args.p
+    ≡ pattern_check c.args.ws.now c.args.own (c.args.p + 1) then unmatchings_check c.args.ws.now c.args.own (unmatching_of (word c.args.ws.now c.args.p)) (c.args.p + 3)
+    = simp (le-leb _ _ c.if-ws-p.false, ← c.part-kind.ensures, eq-eqb _ _ c.in-4.is, ← c.part.ensures, eq-eqb _ _ c.if-part-ne0.false, ← c.part-n.ensures, le-leb _ _ c.if-n-gt8.false, checks) in
+    rw h (step_fault _ _ _ _ _ _ (sym c.pattern.ensures ∙ c.in-Fault.is))
+
+pub returns-in-0-to-3 : goal.returns-in-0-to-3
+unfolding condition_check
+returns-in-0-to-3 c = simp (le-leb _ _ c.if-ws-p.false, ← c.part-kind.ensures, ne_eqb c.part-kind.result 4 (λ e. omega (arith, e)), checks)

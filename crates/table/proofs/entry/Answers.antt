@@ -9,68 +9,57 @@ use Prim.Native.Nat.{◌+◌, ◌≤◌}
 use native.Mathlib.Omega.{arith}
 use mathlib.Core.Path.{◌≡◌, ◌∙◌, sym}
 use borrow.Author.Rules.{rules}
-
 use Rattle.table.proofs.entry.Goals as goal
-
-head-right : (c : tie.After-enum-told) → let a = c.args in head_check a.ws.now a.width a.p ≡ fine
-head-right c = next_fine _ _ _ (sym c.head.ensures ∙ c.enum_told-1.given.1)
-
--- and so is the opcode pattern
-opcode-right : (c : tie.After-enum-told2) → let a = c.args in pattern_check a.ws.now c.own_bits-own.result (a.p + 1) ≡ fine
-opcode-right c = next_fine _ _ _ (sym c.pattern.ensures ∙ c.enum_told-in-Next-pattern-1.given.1)
-
--- and the cycles; where they go on to the fields stands in the table
-cycles-right : (c : tie.After-q) → let a = c.args in step (cycles_check a.ws.now a.p) (fields_place a.ws.now a.p) ≡ Next c.q-1.given.0.0
-cycles-right c = sym c.cycles.ensures ∙ c.q-1.given.1
-
-fields-stand : (c : tie.After-q) → c.q-1.given.0.0 ≤ length c.args.ws.now
-fields-stand c =
-    let e = cycles-right c in
-    rw (next_place _ _ _ e) (cycles_fit _ _ (omega (arith, pattern_fits _ _ _ (opcode-right c))) (next_fine _ _ _ e))
 
 pub returns-in-Fault : goal.returns-in-Fault
 unfolding entry_check
 returns-in-Fault c = step_fault _ _ _ _ _ _ (sym c.head.ensures ∙ c.in-Fault.is)
 
 pub bounds-ws-p : goal.bounds-ws-p
-bounds-ws-p c = omega (arith, head_fits _ _ _ (head-right c))
+bounds-ws-p c = omega (arith, head_fits _ _ _ (next_fine _ _ _ (sym c.head.ensures ∙ c.in-Next.is)))
 
 pub own_bits-own-requires : goal.own_bits-own-requires
-own_bits-own-requires c = omega (arith, head_some _ _ _ (head-right c), head_below _ _ _ (head-right c), c.part-size.ensures, c.requires)
+own_bits-own-requires c = omega (arith, head_some _ _ _ (next_fine _ _ _ (sym c.head.ensures ∙ c.in-Next.is)), head_below _ _ _ (next_fine _ _ _ (sym c.head.ensures ∙ c.in-Next.is)), c.part-size.ensures, c.requires)
 
 pub pattern-requires : goal.pattern-requires
-pattern-requires c = omega (arith, head_fits _ _ _ (head-right c))
+pattern-requires c = omega (arith, head_fits _ _ _ (next_fine _ _ _ (sym c.head.ensures ∙ c.in-Next.is)))
 
 pub returns-in-Fault-pattern : goal.returns-in-Fault-pattern
-returns-in-Fault-pattern c = opcode_stop _ _ _ (head-right c) _ _ c.part-size.ensures c.own_bits-own.ensures _ _ _ (sym c.pattern.ensures ∙ c.in-Fault-pattern.is)
+returns-in-Fault-pattern c = opcode_stop _ _ _ (next_fine _ _ _ (sym c.head.ensures ∙ c.in-Next.is)) _ _ c.part-size.ensures c.own_bits-own.ensures _ _ _ (sym c.pattern.ensures ∙ c.in-Fault-pattern.is)
 
 pub cycles-requires : goal.cycles-requires
-cycles-requires c = omega (arith, pattern_fits _ _ _ (opcode-right c))
+cycles-requires c = omega (arith, pattern_fits _ _ _ (next_fine _ _ _ (sym c.pattern.ensures ∙ c.in-Next-pattern.is)))
 
 pub returns-in-Fault-cycles : goal.returns-in-Fault-cycles
 returns-in-Fault-cycles c =
-    cycles_stop _ _ _ (head-right c) _ _ c.part-size.ensures c.own_bits-own.ensures (opcode-right c) _ _ _
+    cycles_stop _ _ _ (next_fine _ _ _ (sym c.head.ensures ∙ c.in-Next.is)) _ _ c.part-size.ensures c.own_bits-own.ensures (next_fine _ _ _ (sym c.pattern.ensures ∙ c.in-Next-pattern.is)) _ _ _
     (sym c.cycles.ensures ∙ c.in-Fault-cycles.is)
 
 pub bounds-ws-p-2 : goal.bounds-ws-p-2
-bounds-ws-p-2 c = omega (arith, pattern_fits _ _ _ (opcode-right c))
+bounds-ws-p-2 c = omega (arith, pattern_fits _ _ _ (next_fine _ _ _ (sym c.pattern.ensures ∙ c.in-Next-pattern.is)))
 
 pub fields-requires : goal.fields-requires
 fields-requires c =
-    let h = head-right c in
-    (fields-stand c, omega (arith, head_below _ _ _ h, c.part-size.ensures), c.requires.1)
+    let h = next_fine _ _ _ (sym c.head.ensures ∙ c.in-Next.is) in
+    let e = sym c.cycles.ensures ∙ c.in-Next-cycles.is in
+    let o = next_fine _ _ _ (sym c.pattern.ensures ∙ c.in-Next-pattern.is) in
+    let f : c.in-Next-cycles.q ≤ length c.args.ws.now = rw (next_place _ _ _ e) (cycles_fit _ _ (omega (arith, pattern_fits _ _ _ o)) (next_fine _ _ _ e)) in
+    (f, omega (arith, head_below _ _ _ h, c.part-size.ensures), c.requires.1)
 
 pub conditions-requires : goal.conditions-requires
 conditions-requires c =
-    let e = sym c.fields.ensures ∙ c.in-Next-fields.is in
-    omega (arith, next_place _ _ _ e, fields_fit _ _ _ _ _ _ _ (fields-stand c) (next_fine _ _ _ e))
+    let e = sym c.cycles.ensures ∙ c.in-Next-cycles.is in
+    let o = next_fine _ _ _ (sym c.pattern.ensures ∙ c.in-Next-pattern.is) in
+    let f : c.in-Next-cycles.q ≤ length c.args.ws.now = rw (next_place _ _ _ e) (cycles_fit _ _ (omega (arith, pattern_fits _ _ _ o)) (next_fine _ _ _ e)) in
+    let g = sym c.fields.ensures ∙ c.in-Next-fields.is in
+    omega (arith, next_place _ _ _ g, fields_fit _ _ _ _ _ _ _ f (next_fine _ _ _ g))
 
 pub returns-in-Next-fields : goal.returns-in-Next-fields
 returns-in-Next-fields c =
-    conditions_rest _ _ _ (head-right c) _ _ c.part-size.ensures c.own_bits-own.ensures (opcode-right c) _ (cycles-right c) _ c.part.ensures _ _ _
+    conditions_rest _ _ _ (next_fine _ _ _ (sym c.head.ensures ∙ c.in-Next.is)) _ _ c.part-size.ensures c.own_bits-own.ensures (next_fine _ _ _ (sym c.pattern.ensures ∙ c.in-Next-pattern.is)) _ (sym c.cycles.ensures ∙ c.in-Next-cycles.is) _ c.part.ensures _ _ _
     (sym c.fields.ensures ∙ c.in-Next-fields.is) c.part-in-Next-fields.ensures c.conditions.ensures
 
 pub returns-in-Fault-fields : goal.returns-in-Fault-fields
 returns-in-Fault-fields c =
-    fields_stop' _ _ _ (head-right c) _ _ c.part-size.ensures c.own_bits-own.ensures (opcode-right c) _ (cycles-right c) _ c.part.ensures _ _ _
+    fields_stop' _ _ _ (next_fine _ _ _ (sym c.head.ensures ∙ c.in-Next.is)) _ _ c.part-size.ensures c.own_bits-own.ensures (next_fine _ _ _ (sym c.pattern.ensures ∙ c.in-Next-pattern.is)) _ (sym c.cycles.ensures ∙ c.in-Next-cycles.is) _ c.part.ensures _ _ _
     (sym c.fields.ensures ∙ c.in-Fault-fields.is)

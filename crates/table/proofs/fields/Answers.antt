@@ -9,22 +9,17 @@ use mathlib.Core.Path.{◌≡◌, refl, sym, ap, ◌∙◌}
 use Prim.Native.Nat.{ℕ, ◌+◌, ◌*◌, ◌-◌, ◌≤◌}
 use Rattle.table.proofs.fields.Goals as goal
 
--- the field at hand is without fault
-passed : (c : tie.After-known-told invariant-loop decreases-loop) → let a = c.args in
-    field_check a.ws.now a.width a.size c.loop-left.used c.loop-left.at ≡ fine
-passed c = next_fine _ _ _ (sym c.field.ensures ∙ c.q-1.given.1)
-
 pub loop-left-init : goal.loop-left-init
 loop-left-init c = (search rules, refl)
 
 pub offset_bounds-ws-at : goal.offset_bounds-ws-at
-offset_bounds-ws-at c = omega (arith, field_fits _ _ _ _ _ (passed c), c.well-formed)
+offset_bounds-ws-at c = omega (arith, field_fits _ _ _ _ _ (next_fine _ _ _ (sym c.field.ensures ∙ c.in-Next.is)), c.well_formed)
 
 pub bounds-ws-at : goal.bounds-ws-at
-bounds-ws-at c = omega (arith, field_fits _ _ _ _ _ (passed c))
+bounds-ws-at c = omega (arith, field_fits _ _ _ _ _ (next_fine _ _ _ (sym c.field.ensures ∙ c.in-Next.is)))
 
 pub field_bits-used-requires : goal.field_bits-used-requires
-field_bits-used-requires c = omega (arith, field_some _ _ _ _ _ (passed c), field_below _ _ _ _ _ (passed c), c.requires)
+field_bits-used-requires c = omega (arith, field_some _ _ _ _ _ (next_fine _ _ _ (sym c.field.ensures ∙ c.in-Next.is)), field_below _ _ _ _ _ (next_fine _ _ _ (sym c.field.ensures ∙ c.in-Next.is)), c.requires)
 
 pub returns-in-Fault : goal.returns-in-Fault
 returns-in-Fault c =
@@ -35,7 +30,7 @@ returns-in-Fault c =
 pub loop-left-preserved : goal.loop-left-preserved
 loop-left-preserved c =
     let e = sym c.field.ensures ∙ c.in-Next.is in (
-      omega (arith, next_place _ _ _ e, field_fits _ _ _ _ _ (passed c)),
+      omega (arith, next_place _ _ _ e, field_fits _ _ _ _ _ (next_fine _ _ _ (sym c.field.ensures ∙ c.in-Next.is))),
       c.loop-left.invariant.1 ∙ rw c.field_bits-used.ensures (fields_on _ _ _ _ _ _ _ _ c.loop-left-test.true e),
     )
 

@@ -1,3 +1,5 @@
+use native.Mathlib.Omega.{arith}
+use mathlib.Core.Path.{◌≡◌}
 use Rattle.table.proofs.Laws.{checks, kind_yes, kind_no}
 use Rattle.table.specs.Check.{first_check}
 use Rattle.words.specs.Tests.{◌or◌}
@@ -32,3 +34,14 @@ returns-then-width-gt32 c = simp (le-leb _ _ c.if-ws-lt1.false, le-leb _ _ c.if-
 pub returns : goal.returns
 unfolding first_check
 returns c = simp (le-leb _ _ c.if-ws-lt1.false, le-leb _ _ c.if-ws-gt16384.false, ← c.part-kind.ensures, kind_yes _ c.in-1.is, ← c.part.ensures, eq-eqb _ _ c.if-part-ne0.false, ← c.part-2.ensures, le-leb _ _ c.if-part-gt256.false, ← c.part-width.ensures, le-leb _ _ c.if-width-lt1.false, le-leb _ _ c.if-width-gt32.false, checks)
+
+pub returns-in-0 : goal.returns-in-0
+unfolding first_check ◌or◌
+returns-in-0 c =
+    let h : c.part-kind.result ≡ 0 = omega arith in
+    simp (le-leb _ _ c.if-ws-lt1.false, le-leb _ _ c.if-ws-gt16384.false, ← c.part-kind.ensures, h, checks)
+
+pub returns-in-0-2 : goal.returns-in-0-2
+unfolding first_check
+returns-in-0-2 c =
+    simp (le-leb _ _ c.if-ws-lt1.false, le-leb _ _ c.if-ws-gt16384.false, ← c.part-kind.ensures, kind_no _ c.in-0.in-0-own.rest.0.1, checks)

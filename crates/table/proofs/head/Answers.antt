@@ -1,3 +1,4 @@
+use native.Mathlib.Omega.{arith}
 use Rattle.table.proofs.Laws.{checks}
 use Rattle.table.specs.Check.{head_check}
 use borrow.Author.Tests.{lt-leb, le-leb, eq-eqb, ne_eqb}
@@ -27,3 +28,7 @@ returns-then-part-gt8-2 c = simp (le-leb _ _ c.if-ws-p.false, ← c.part-kind.en
 pub returns : goal.returns
 unfolding head_check
 returns c = simp (le-leb _ _ c.if-ws-p.false, ← c.part-kind.ensures, eq-eqb _ _ c.in-2.is, ← c.part-size.ensures, le-leb _ _ c.if-size-lt1.false, le-leb _ _ c.if-width-size.false, ← c.part.ensures, le-leb _ _ c.if-part-gt8.false, ← c.part-2.ensures, le-leb _ _ c.if-part-gt8-2.false, checks)
+
+pub returns-in-0-to-1 : goal.returns-in-0-to-1
+unfolding head_check
+returns-in-0-to-1 c = simp (le-leb _ _ c.if-ws-p.false, ← c.part-kind.ensures, ne_eqb c.part-kind.result 2 (λ e. omega (arith, e)), checks)

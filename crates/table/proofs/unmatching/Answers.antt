@@ -19,3 +19,7 @@ returns-then-part-ne0 c = simp (le-leb _ _ c.if-ws-p.false, ← c.part-kind.ensu
 pub returns : goal.returns
 unfolding unmatching_check
 returns c = simp (le-leb _ _ c.if-ws-p.false, ← c.part-kind.ensures, eq-eqb _ _ c.in-5.is, ← c.part.ensures, eq-eqb _ _ c.if-part-ne0.false, checks) (rw add_assoc at c.pattern.ensures)
+
+pub returns-in-0-to-4 : goal.returns-in-0-to-4
+unfolding unmatching_check
+returns-in-0-to-4 c = simp (le-leb _ _ c.if-ws-p.false, ← c.part-kind.ensures, ne_eqb c.part-kind.result 5 (λ e. omega (arith, e)), checks)

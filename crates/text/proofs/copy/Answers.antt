@@ -1,10 +1,8 @@
 -- `text::copy` meets its contract. The buffer is what it was, with the bytes passed so far in their place. Assumes nothing.
-use Prim.Native.Nat.{◌-◌, ◌≤◌}
 use mathlib.Core.Path.{◌≡◌, refl, ap, ◌∙◌}
 use native.Mathlib.Omega.{arith}
 use lib.Seq.{paste, paste-zero}
 use lib.ListN.{length, length-set}
-use borrow.Author.Rules.{rules}
 use Rattle.text.proofs.Putting.{copied_on}
 use Rattle.text.proofs.copy.Goals as goal
 

@@ -1,5 +1,4 @@
 -- `text::digit` meets its contract. Assumes nothing.
-use borrow.Author.Rules.{rules}
 use Rattle.text.proofs.Spelling.{digit_low, digit_high}
 use Rattle.text.proofs.digit.Goals as goal
 

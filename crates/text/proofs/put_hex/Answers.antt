@@ -1,5 +1,4 @@
 -- `text::put_hex` meets its contract. Assumes nothing.
-use borrow.Author.Rules.{rules}
 use Rattle.text.proofs.Spelling.{eight}
 use Rattle.text.proofs.put_hex.Goals as goal
 

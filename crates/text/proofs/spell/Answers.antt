@@ -1,11 +1,8 @@
 -- `text::spell` meets its contract. The whole text is that of the rest, and then the digits written; the rest has at most as many digits as there is room before them. Assumes nothing.
-use Prim.Native.Nat.{◌+◌, ◌/◌, ◌^◌, ◌≤◌, ◌<◌}
-use mathlib.Core.List.{◌++◌}
-use mathlib.Core.Path.{◌≡◌, sym, ◌∙◌}
+use Prim.Native.Nat.{◌/◌, ◌<◌}
+use mathlib.Core.Path.{sym, ◌∙◌}
 use native.Mathlib.Omega.{arith}
-use lib.ListN.{length, length-set, drop}
-use borrow.Author.Rules.{rules}
-use Rattle.text.specs.Digits.{decimal_text}
+use lib.ListN.{length-set}
 use Rattle.text.proofs.Spelling.{none_yet, spelled_all, spelled_on, room_left, more_room}
 use Rattle.text.proofs.spell.Goals as goal
 

@@ -1,12 +1,9 @@
 -- `text::spell` meets its contract. The whole text is that of the rest, and then the digits written; the rest has at most as many digits as there is room before them. Assumes nothing.
-use Prim.Native.Nat.{◌+◌, ◌/◌, ◌^◌, ◌≤◌, ◌<◌}
+use Prim.Native.Nat.{◌^◌, ◌≤◌, ◌<◌}
 use mathlib.Core.List.{◌++◌}
-use mathlib.Core.Path.{◌≡◌, sym, ◌∙◌}
-use native.Mathlib.Omega.{arith}
-use lib.ListN.{length, length-set, drop}
-use borrow.Author.Rules.{rules}
+use mathlib.Core.Path.{◌≡◌}
+use lib.ListN.{length, drop}
 use Rattle.text.specs.Digits.{decimal_text}
-use Rattle.text.proofs.Spelling.{none_yet, spelled_all, spelled_on, room_left, more_room}
 use Rattle.text.proofs.spell.Given as goal
 
 abbrev pub invariant-loop-rest : goal.invariant-loop-rest

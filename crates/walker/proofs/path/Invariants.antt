@@ -1,0 +1,11 @@
+use Prim.Native.Nat.{◌-◌, ◌≤◌, ◌<◌}
+use mathlib.Core.Path.{◌≡◌}
+use Rattle.flat.specs.Walk.{path, ended}
+use Rattle.walker.proofs.Paths.{plus}
+use Rattle.walker.proofs.path.Given as goal
+
+abbrev pub invariant-loop-next : goal.invariant-loop-next
+invariant-loop-next l = (1 ≤ l.at) × (l.at ≤ l.nodes) × (l.tests < l.at) × (ended (path l.nodes l.tree l.width l.nodes l.word 1) ≡ plus l.tests l.mask (ended (path (l.nodes - l.tests) l.tree l.width l.nodes l.word l.at)))
+
+abbrev pub decreases-loop-next : goal.decreases-loop-next
+decreases-loop-next l = l.nodes - l.tests
