@@ -1,4 +1,6 @@
 // The decision in a cell: what each entry is there, what that settles, and if nothing, which bit to test.
+#![tactic(auto)]
+
 ghost use Rattle.std.specs.Prelude.{◌≡◌, min};
 ghost use Rattle.choice.specs.Judged.{entry_placed, said_verdict};
 ghost use Rattle.cell.specs.Step.{settled_at, step_at};

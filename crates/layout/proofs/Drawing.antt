@@ -51,7 +51,7 @@ unfolding sum
 sum_but f zero i h = absurd (not-suc-le-zero h)
 sum_but f (suc n) i h =
     below_suc h
-    (λ e. rw e (omega (arith, but_own f n, sum_same (but f n) f n (λ j l. but_other f n j (λ k. omega arith)))))
+    (λ e. rw e (omega (arith, ap (λ x. sum (but f x) n) e, but_own f n, sum_same (but f n) f n (λ j l. but_other f n j (λ k. omega arith)))))
     (λ l. omega (arith, sum_but f n i l, but_other f i n (λ k. omega arith)))
 
 -- a sum is at most another where its numbers are mapped, no two to one, to numbers that have as much

@@ -5,6 +5,7 @@ use mathlib.Core.List.{List, [], ◌∷◌, ◌++◌}
 use Prim.Native.Nat.{ℕ, zero, suc, ◌+◌, ◌≤◌, ◌<◌, ◌^◌}
 use native.Mathlib.Nat.{le_trans}
 use native.Mathlib.Omega.{arith}
+use lib.Bits.{bit_or}
 use lib.Dec.{eqb}
 use lib.ListN.{length}
 use lib.Pow.{pow_mono}
@@ -15,7 +16,7 @@ use Rattle.words.proofs.Bits.{includes_le}
 use Rattle.table.specs.Table.{Pattern, Field, Condition, Entry, own_bits}
 use Rattle.table.proofs.Good.{own_lt}
 use Rattle.layout.specs.Layout.{all_words, pattern_words, field_head, fields_words, unmatched_words, condition_head, condition_words, conditions_words, entry_head, cycles_words, entry_words, entries_words, table_head, table_words}
-use Rattle.layout.specs.Readable.{Small, lawful_pattern, lawful_condition, lawful_form, lawful_field, lawful_fields, lawful_head, lawful_cycles, lawful, Readable}
+use Rattle.layout.specs.Readable.{Small, bits_of, lawful_pattern, lawful_condition, lawful_form, lawful_field, lawful_fields, lawful_head, lawful_cycles, lawful, Readable}
 use Rattle.layout.proofs.Rereading.{kind_small}
 
 -- ---- lists
@@ -73,7 +74,7 @@ module _ (width size : ℕ) (w : width ≤ 32) where
   fields_small : (used : ℕ) (fs : List Field) → lawful_fields width size used fs ≡ true → Small (fields_words fs)
   unfolding lawful_fields all_words
   fields_small used [] l = none_small
-  fields_small used (f ∷ fs) l = more_small (field_head f) (fields_words fs) (field_small used f (and_l _ l)) (fields_small _ fs (and_r _ l))
+  fields_small used (f ∷ fs) l = more_small (field_head f) (fields_words fs) (field_small used f (and_l _ l)) (fields_small (bit_or used (bits_of f)) fs (and_r _ l))
 
 -- ---- entries
 

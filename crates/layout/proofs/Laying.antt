@@ -4,6 +4,7 @@ use mathlib.Core.Bool.{Bool, true}
 use mathlib.Core.List.{List, [], ◌∷◌, ◌++◌}
 use Prim.Native.Nat.{ℕ, zero, suc, ◌+◌, ◌*◌, ◌≤◌}
 use native.Mathlib.Omega.{arith}
+use lib.Bits.{bit_or}
 use lib.Dec.{eqb}
 use lib.ListN.{length}
 use borrow.Author.Tests.{eqb-true, leb-true, lt-ltb}
@@ -101,7 +102,7 @@ module _ (ws : List ℕ) (width size : ℕ) where
       → Laid ws p q (lawful_fields width size used (fields_at ws n p)) (fields_words (fields_at ws n p))
   unfolding fields_check fields_at field_bits lawful_fields all_words
   fields_laid e used zero p q h t = ended (need_true _ _ _ t) (omega arith)
-  fields_laid e used (suc n) p q h t = both (field_laid used p (then_l _ _ t)) (fields_laid e _ n (p + 1) q (omega arith) (then_r _ _ t))
+  fields_laid e used (suc n) p q h t = both (field_laid used p (then_l _ _ t)) (fields_laid e (bit_or used (field_bits (word ws p))) n (p + 1) q (omega arith) (then_r _ _ t))
 
 module _ (ws : List ℕ) (width : ℕ) where
   head_laid : (p : ℕ) → head_check ws width p ≡ fine → (p + 1 ≤ length ws) × (lawful_head width (entry_at ws p) ≡ true) × (Small ws → word ws p ≡ entry_head (entry_at ws p))

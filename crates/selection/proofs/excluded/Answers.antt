@@ -14,44 +14,7 @@ use mathlib.Core.Bool.{false}
 use lib.Dec.{ltb}
 use borrow.Author.Rules.{rules}
 use Rattle.selection.proofs.excluded.Goals as goal
-
--- the count of unmatching patterns is the table's, and below 16
-counted : (c : tie.After-part invariant-loop decreases-loop invariant-search decreases-search) → c.part-unmatchings.result ≡ unmatching_of (word c.args.ws.now c.search.condition)
-counted c = part_of _ _ _ 0 4 c.part-unmatchings.ensures c.word_at.ensures
-
-few : (c : tie.After-part invariant-loop decreases-loop invariant-search decreases-search) → c.part-unmatchings.result < 16
-few c = let e : c.part-unmatchings.result ≡ part c.word_at.result 0 4 = c.part-unmatchings.ensures in omega (arith, part_lt c.word_at.result 0 4)
-
--- where the search goes on, the condition at hand was not satisfied, and the unmatching patterns left end where it ends
-missed : (c : tie.Joined1 invariant-loop decreases-loop invariant-search decreases-search) → let a = c.args in
-    satisfied a.word (condition_at a.ws.now c.search.condition) ≡ false
-missed c =
-    let a = c.args in
-    let k = c.search.condition in
-    let asked = c.matches-matched.ensures in
-    ⊎_elim
-    (λ w.
-    fails_unmatching a.ws.now a.word k _ (counted c) (sym asked ∙ w.0.taken)
-    (w.1.inv.1 ∙ unmatching_found _ _ _ _ w.2.left (sym w.3.ensures ∙ w.4.taken)))
-    (λ w. fails_matching a.ws.now a.word k (sym asked ∙ w.0.left))
-    c.if-matched.branch
-
-past : (c : tie.Joined1 invariant-loop decreases-loop invariant-search decreases-search) → c.if-matched.unmatching + 3 * c.if-matched.unmatchings ≡ c.search.condition + 3 + 3 * c.part-unmatchings.result
-past c = ⊎_elim (λ w. rw (w.5, w.6) w.1.inv.0) (λ w. rw (w.1, w.2) refl) c.if-matched.branch
-
--- what is left of the conditions holds a satisfied one exactly where some are left
-ended : (c : tie.Left-search invariant-loop decreases-loop invariant-search decreases-search) → let a = c.args in
-    any_of (satisfied a.word) (conditions_at a.ws.now c.search.conditions c.search.condition) ≡ ltb 0 c.search.conditions
-ended c =
-    let a = c.args in
-    ⊎_elim
-    (λ w. condition_none _ _ _ _ w.left ∙ sym (le-ltb _ _ w.left))
-    (λ w.
-    condition_found _ _ _ _ w.0.taken
-    (satisfies a.ws.now a.word c.search.condition _ (part_of _ _ _ 0 4 w.3.ensures w.2.ensures) (sym w.1.ensures ∙ w.4.taken)
-    (w.5.inv.1 ∙ unmatching_none _ _ _ _ w.6.taken))
-    ∙ sym (lt-ltb _ _ w.0.taken))
-    c.search-test.branch
+use Rattle.selection.proofs.excluded.Goals.{then-matched+else-unmatchings-lt1+then-matches, else-matched, else-search-test, then-search-test+then-matched+then-unmatchings-lt1}
 
 pub search-init : goal.search-init
 search-init c = (omega arith, refl)
@@ -86,16 +49,63 @@ loop-unmatchings-preserved c =
     (omega arith, l.invariant.1 ∙ unmatching_pass a.ws.now a.word l.unmatchings l.unmatching c.if-unmatchings-lt1.false (sym asked ∙ unmatched))
 
 pub overflow_cast-condition : goal.overflow_cast-condition
-overflow_cast-condition c = omega (arith, past c)
+overflow_cast-condition c =
+    let past : c.if-matched.unmatching + 3 * c.if-matched.unmatchings ≡ c.search.condition + 3 + 3 * c.part-unmatchings.result =
+    elim c.if-matched.branch [
+      | then-matched+else-unmatchings-lt1+then-matches w ↦ rw (w.unmatching-is, w.unmatchings-is) w.loop-unmatchings.invariant.0
+      | else-matched w ↦ rw (w.unmatching-is, w.unmatchings-is) refl
+    ] in
+    omega (arith, past)
 
 pub overflow_mul-condition : goal.overflow_mul-condition
-overflow_mul-condition c = omega (arith, past c)
+overflow_mul-condition c =
+    let past : c.if-matched.unmatching + 3 * c.if-matched.unmatchings ≡ c.search.condition + 3 + 3 * c.part-unmatchings.result =
+    elim c.if-matched.branch [
+      | then-matched+else-unmatchings-lt1+then-matches w ↦ rw (w.unmatching-is, w.unmatchings-is) w.loop-unmatchings.invariant.0
+      | else-matched w ↦ rw (w.unmatching-is, w.unmatchings-is) refl
+    ] in
+    omega (arith, past)
 
 pub overflow_add-condition-in-search : goal.overflow_add-condition-in-search
-overflow_add-condition-in-search c = omega (arith, past c)
+overflow_add-condition-in-search c =
+    let past : c.if-matched.unmatching + 3 * c.if-matched.unmatchings ≡ c.search.condition + 3 + 3 * c.part-unmatchings.result =
+    elim c.if-matched.branch [
+      | then-matched+else-unmatchings-lt1+then-matches w ↦ rw (w.unmatching-is, w.unmatchings-is) w.loop-unmatchings.invariant.0
+      | else-matched w ↦ rw (w.unmatching-is, w.unmatchings-is) refl
+    ] in
+    omega (arith, past)
 
 pub search-preserved : goal.search-preserved
-search-preserved c = let i = c.search.invariant in let h = c.search-test.true in (omega (arith, few c, past c, i.0), i.1 ∙ rw (past c, counted c) (condition_pass _ _ _ _ h (missed c)))
+search-preserved c =
+    let counted : c.part-unmatchings.result ≡ unmatching_of (word c.args.ws.now c.search.condition) = part_of _ _ _ 0 4 c.part-unmatchings.ensures c.word_at.ensures in
+    let e : c.part-unmatchings.result ≡ part c.word_at.result 0 4 = c.part-unmatchings.ensures in
+    let few : c.part-unmatchings.result < 16 = omega (arith, part_lt c.word_at.result 0 4) in
+    let past : c.if-matched.unmatching + 3 * c.if-matched.unmatchings ≡ c.search.condition + 3 + 3 * c.part-unmatchings.result =
+    elim c.if-matched.branch [
+      | then-matched+else-unmatchings-lt1+then-matches w ↦ rw (w.unmatching-is, w.unmatchings-is) w.loop-unmatchings.invariant.0
+      | else-matched w ↦ rw (w.unmatching-is, w.unmatchings-is) refl
+    ] in
+    let asked = c.matches-matched.ensures in
+    let missed : satisfied c.args.word (condition_at c.args.ws.now c.search.condition) ≡ false =
+    elim c.if-matched.branch [
+      | then-matched+else-unmatchings-lt1+then-matches w ↦
+          fails_unmatching c.args.ws.now c.args.word c.search.condition _ counted (sym asked ∙ w.if-matched.true)
+          (w.loop-unmatchings.invariant.1 ∙ unmatching_found _ _ _ _ w.if-unmatchings-lt1.false (sym w.matches.ensures ∙ w.if-matches.true))
+      | else-matched w ↦ fails_matching c.args.ws.now c.args.word c.search.condition (sym asked ∙ w.if-matched.false)
+    ] in
+    let i = c.search.invariant in
+    let h = c.search-test.true in
+    (omega (arith, few, past, i.0), i.1 ∙ rw (past, counted) (condition_pass _ _ _ _ h missed))
 
 pub returns : goal.returns
-returns c = sym (c.search.invariant.1 ∙ ended c)
+returns c =
+    let ended : any_of (satisfied c.args.word) (conditions_at c.args.ws.now c.search.conditions c.search.condition) ≡ ltb 0 c.search.conditions =
+    elim c.search-test.branch [
+      | else-search-test w ↦ condition_none _ _ _ _ w.search-test.false ∙ sym (le-ltb _ _ w.search-test.false)
+      | then-search-test+then-matched+then-unmatchings-lt1 w ↦
+          condition_found _ _ _ _ w.search-test.true
+          (satisfies c.args.ws.now c.args.word c.search.condition _ (part_of _ _ _ 0 4 w.part-unmatchings.ensures w.word_at.ensures) (sym w.matches-matched.ensures ∙ w.if-matched.true)
+          (w.loop-unmatchings.invariant.1 ∙ unmatching_none _ _ _ _ w.if-unmatchings-lt1.true))
+          ∙ sym (lt-ltb _ _ w.search-test.true)
+    ] in
+    sym (c.search.invariant.1 ∙ ended)

@@ -1,0 +1,16 @@
+use Rattle.words.specs.Tests.{all_of}
+use Rattle.table.specs.Table.{unmatching_at}
+use Rattle.cell.specs.Cell.{clashes}
+use Rattle.cell.specs.Decide.{cell}
+use Rattle.cell.proofs.Searches.{all_pattern_on, all_pattern_miss, all_pattern_end}
+use borrow.Author.Tests.{not-true, not-false}
+use mathlib.Core.Path.{◌≡◌, refl, sym, ◌∙◌}
+use Prim.Native.Nat.{◌+◌, ◌*◌, ◌<◌, ◌^◌}
+use borrow.Author.Rules.{rules}
+use Rattle.cell.proofs.standing.all_clash.Given as goal
+
+abbrev pub invariant-loop-left : goal.invariant-loop-left
+invariant-loop-left l = (l.at + 3 * l.left < 2 ^ 63) × (all_of (clashes (cell l.fixed l.bits)) (unmatching_at l.table l.n l.p) ≡ all_of (clashes (cell l.fixed l.bits)) (unmatching_at l.table l.left l.at))
+
+abbrev pub decreases-loop-left : goal.decreases-loop-left
+decreases-loop-left l = l.left

@@ -1,0 +1,15 @@
+use Rattle.words.specs.Tests.{any_of}
+use Rattle.table.specs.Table.{conditions_at}
+use Rattle.cell.specs.Cell.{holds}
+use Rattle.cell.specs.Decide.{cell}
+use Rattle.cell.proofs.Searches.{any_condition_on, any_condition_hit, any_condition_end}
+use mathlib.Core.Path.{◌≡◌, refl, sym, ◌∙◌}
+use Prim.Native.Nat.{◌+◌, ◌*◌, ◌<◌, ◌^◌}
+use borrow.Author.Rules.{rules}
+use Rattle.cell.proofs.standing.any_holds.Given as goal
+
+abbrev pub invariant-loop-left : goal.invariant-loop-left
+invariant-loop-left l = (l.at + 48 * l.left < 2 ^ 62) × (any_of (holds (cell l.fixed l.bits)) (conditions_at l.table l.n l.p) ≡ any_of (holds (cell l.fixed l.bits)) (conditions_at l.table l.left l.at))
+
+abbrev pub decreases-loop-left : goal.decreases-loop-left
+decreases-loop-left l = l.left

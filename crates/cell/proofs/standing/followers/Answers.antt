@@ -1,0 +1,7 @@
+use Rattle.words.proofs.Parts.{part_lt}
+use native.Mathlib.Omega.{arith}
+use borrow.Author.Rules.{rules}
+use Rattle.cell.proofs.standing.followers.Goals as goal
+
+pub returns : goal.returns
+returns c = (c.part.ensures, omega (arith, c.part.ensures, part_lt c.args.head 0 4))

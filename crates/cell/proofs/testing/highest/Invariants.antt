@@ -1,0 +1,13 @@
+use Rattle.cell.proofs.Loops.{best_zero, best_top, best_last, from_less, unfixed_le, unfixed_yes, unfixed_no}
+use Prim.Native.Nat.{ℕ, ◌≤◌, ◌<◌}
+use mathlib.Core.Path.{◌≡◌, sym, ◌∙◌}
+use native.Mathlib.Omega.{arith}
+use Rattle.cell.specs.Decide.{unfixed_in}
+use borrow.Author.Rules.{rules}
+use Rattle.cell.proofs.testing.highest.Given as goal
+
+abbrev pub invariant-loop-i : goal.invariant-loop-i
+invariant-loop-i l = (l.i ≤ l.width) × ((j : ℕ) → l.i ≤ j → j < l.width → unfixed_in l.mask l.fixed j ≡ 0)
+
+abbrev pub decreases-loop-i : goal.decreases-loop-i
+decreases-loop-i l = l.i
