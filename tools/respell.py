@@ -14,6 +14,8 @@ import sys
 
 TOKEN = re.compile(r"(?<![\w'◌·-])[A-Za-z_◌][\w'◌·-]*")
 DECLARED = re.compile(r"^\s*(?:(?:pub|abbrev|unfoldable|mutual)\s+)*([A-Za-z_◌][\w'◌·-]*)\s+:(?:\s|$)", re.M)
+# a name that a file of src/ gives to a definition that it brings
+ALIAS = re.compile(r"(?<= as )[a-z][a-z0-9]*[A-Z]\w*")
 TABLE = "tools/respelled.tsv"
 # lemmas that would fall together with a name of the kit's library, in a file that has both
 APART = {"bit-and": "bit_and_lem", "bit-or": "bit_or_lem"}
@@ -41,7 +43,7 @@ def read(path):
 
 
 def is_walk(path):
-    return path.endswith(("/Proof.antt", "/Answers.antt", "/Invariants.antt"))
+    return "/proofs/" in path and path.endswith(("/Proof.antt", "/Answers.antt", "/Invariants.antt"))
 
 
 def code(text):
@@ -55,6 +57,8 @@ def table():
         if not is_walk(path):
             text = code(read(path))
             declared.update(DECLARED.findall(text))
+    for path in files((".rt",)):
+        declared.update(ALIAS.findall(read(path)))
     groups = collections.defaultdict(list)
     for name in sorted(declared):
         if re.match(r"[a-z]", name) and "·" not in name:
@@ -109,8 +113,9 @@ def main(argv):
         print(f"{len(clash)} names fall together")
     if "--dry" in argv:
         return 0
+    kept = dict(l.rstrip("\n").split("\t") for l in open(TABLE, encoding="utf-8")) if os.path.exists(TABLE) else {}
     with open(TABLE, "w", encoding="utf-8") as f:
-        f.writelines(f"{a}\t{b}\n" for a, b in sorted(new.items()))
+        f.writelines(f"{a}\t{b}\n" for a, b in sorted({**kept, **new}.items()))
     for path in files((".antt",)):
         text = read(path)
         out = turned(text, new, walk=is_walk(path))

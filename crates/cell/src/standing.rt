@@ -2,7 +2,7 @@
 ghost use Rattle.std.specs.Prelude.{◌≡◌, ◌+◌, ◌*◌, ◌≤◌, ◌<◌, ◌^◌, length};
 ghost use Rattle.words.specs.Tests.{any_of, all_of};
 ghost use Rattle.table.specs.Table.{pattern_at, unmatching_at, condition_at, conditions_at, condition_end, conditions_place, entry_at, unmatching_of};
-ghost use Rattle.cell.specs.Cell.{implies, clashes, holds as holdsIn, fails as failsIn};
+ghost use Rattle.cell.specs.Cell.{implies, clashes, holds as holds_in, fails as fails_in};
 ghost use Rattle.choice.specs.Status.{code_of, Stated};
 ghost use Rattle.choice.specs.Judged.{entry_placed};
 ghost use Rattle.cell.specs.Decide.{cell, status_of};
@@ -72,7 +72,7 @@ fn any_implied(table: &[u32], n: usize, p: usize, fixed: u32, bits: u32) -> bool
 // Whether the condition at p holds in the cell.
 pub fn holds(table: &[u32], p: usize, fixed: u32, bits: u32) -> bool
     requires { p < 2 ^ 62 }
-    ensures { result ≡ holdsIn (cell fixed bits) (condition_at table.now p) }
+    ensures { result ≡ holds_in (cell fixed bits) (condition_at table.now p) }
 {
     if !is_implied(table, p + 1, fixed, bits) {
         return false;
@@ -89,7 +89,7 @@ pub fn holds(table: &[u32], p: usize, fixed: u32, bits: u32) -> bool
 // Whether the condition at p fails in the cell.
 pub fn fails(table: &[u32], p: usize, fixed: u32, bits: u32) -> bool
     requires { p < 2 ^ 62 }
-    ensures { result ≡ failsIn (cell fixed bits) (condition_at table.now p) }
+    ensures { result ≡ fails_in (cell fixed bits) (condition_at table.now p) }
 {
     if is_clash(table, p + 1, fixed, bits) {
         return true;
@@ -127,7 +127,7 @@ pub fn conditions_after(table: &[u32], p: usize, n: usize) -> usize
 // Whether one of the n conditions from p on holds in the cell.
 fn any_holds(table: &[u32], n: usize, p: usize, fixed: u32, bits: u32) -> bool
     requires { p + 48 * n < 2 ^ 62 }
-    ensures { result ≡ any_of (holdsIn (cell fixed bits)) (conditions_at table.now n p) }
+    ensures { result ≡ any_of (holds_in (cell fixed bits)) (conditions_at table.now n p) }
 {
     let mut left = n;
     let mut at = p;
@@ -144,7 +144,7 @@ fn any_holds(table: &[u32], n: usize, p: usize, fixed: u32, bits: u32) -> bool
 // Whether each of the n conditions from p on fails in the cell.
 fn all_fail(table: &[u32], n: usize, p: usize, fixed: u32, bits: u32) -> bool
     requires { p + 48 * n < 2 ^ 62 }
-    ensures { result ≡ all_of (failsIn (cell fixed bits)) (conditions_at table.now n p) }
+    ensures { result ≡ all_of (fails_in (cell fixed bits)) (conditions_at table.now n p) }
 {
     let mut left = n;
     let mut at = p;

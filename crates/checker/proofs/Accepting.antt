@@ -18,7 +18,7 @@ use lib.ListN.{length, length-append, take}
 use lib.Seq.{get_or_at}
 use borrow.Author.Tests.{eq-eqb, eqb-true, leb-true, lt-ltb}
 use Rattle.words.specs.Tests.{◌and◌}
-use Rattle.words.specs.Words.{word, bit, bits}
+use Rattle.words.specs.Words.{word, bit}
 use Rattle.words.proofs.Logic.{cases, and_i, and_l, and_r, not_t, how_many_le}
 use Rattle.table.specs.Lawful.{good_table}
 use Rattle.table.specs.Table.{Entry, Table}

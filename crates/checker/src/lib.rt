@@ -1,4 +1,6 @@
 // The checker: whether a tree that is lent is right for a table.
+#![tactic(auto)]
+
 ghost use Rattle.std.specs.Prelude.{◌≡◌};
 ghost use Rattle.words.specs.Outcome.{cause_of};
 ghost use Rattle.table.specs.Check.{read_table};

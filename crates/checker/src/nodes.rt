@@ -6,7 +6,7 @@ ghost use Rattle.table.specs.Table.{entries_at};
 ghost use Rattle.choice.specs.Rule.{selects};
 ghost use Rattle.choice.specs.Judged.{said_verdict};
 ghost use Rattle.cell.specs.Decide.{cell as cell_of};
-ghost use Rattle.checker.specs.Checker.{is_step_two, provided, check_below, check_sides, accepts as acceptsOf};
+ghost use Rattle.checker.specs.Checker.{is_step_two, provided, check_below, check_sides, accepts as accepts_of};
 
 use crate::Ended;
 use choice::Verdict;
@@ -135,7 +135,7 @@ fn check_node(
 // Whether the tree is right for the entries of a table without fault.
 pub fn accepts(table: &[u32], places: &[u32; 256], count: usize, width: u32, tree: &[u32]) -> bool
     requires { Ready table.now places.now width count }
-    ensures { result ≡ acceptsOf (entries_at table.now count 1) width tree.now }
+    ensures { result ≡ accepts_of (entries_at table.now count 1) width tree.now }
 {
     let header = flat::header_of(words::word_at(tree, 0), tree.len());
     match header {

@@ -1,4 +1,6 @@
 // What an instruction costs: the cycles of an entry.
+#![tactic(auto)]
+
 ghost use Rattle.std.specs.Prelude.{◌≡◌, ℕ};
 ghost use Rattle.words.specs.Outcome.{cause_of};
 ghost use Rattle.table.specs.Check.{read_table};

@@ -3,7 +3,7 @@ ghost use Rattle.std.specs.Prelude.{◌≡◌, ◌≤◌, ◌^◌};
 ghost use Rattle.words.specs.Outcome.{cause_of, result};
 ghost use Rattle.table.specs.Table.{table_of};
 ghost use Rattle.table.specs.Check.{read_table};
-ghost use Rattle.image.specs.Address.{offset_of, halfwords as halfwordsOf};
+ghost use Rattle.image.specs.Address.{offset_of, halfwords as halfwords_of};
 ghost use Rattle.image.specs.Listing.{said_list, step_from, step_of, said_step, Lists};
 ghost use Rattle.image.specs.Parts.{Admitted};
 
@@ -22,15 +22,15 @@ pub struct ByteOffset(pub u64);
 
 // The one conversion.
 pub fn byte_offset(a: HalfwordAddress) -> ByteOffset
-    ensures* { λ r. ⌜ r ≡ offset_of a ⌝ }
+    ensures { result ≡ offset_of a }
 {
     ByteOffset(2 * (a.0 as u64))
 }
 
 // How many halfwords an image has: the address at its end.
 fn halfwords(image: &[u8]) -> u32
-    requires { halfwordsOf image.now ≤ 2 ^ 20 }
-    ensures* { λ r. ⌜ r ≡ halfwordsOf image.now ⌝ }
+    requires { halfwords_of image.now ≤ 2 ^ 20 }
+    ensures { result ≡ halfwords_of image.now }
 {
     (image.len() / 2) as u32
 }
@@ -83,7 +83,7 @@ pub enum Listed {
 impl Listed {
     // Number, place and word of what refuses.
     pub fn cause(self) -> Cause
-        ensures* { λ r. ⌜ r ≡ cause_of (said_list self) ⌝ }
+        ensures { result ≡ cause_of (said_list self) }
     {
         match self {
             Listed::Items(_) => Cause::of(0, 0, 0),
@@ -98,7 +98,7 @@ impl Listed {
 
 // Lists a whole image into the buffer.
 pub fn list(table: &[u32], tree: &[u32], image: &[u8], out: &mut [u32]) -> Listed
-    ensures* { λ r. ⌜ Lists table.now tree.now image.now out.old out.new r ⌝ }
+    ensures { Lists table.now tree.now image.now out.old out.new result }
 {
     let admission = refusals::admit(table, tree, image);
     let refusal = admission.refusal;
@@ -127,7 +127,7 @@ pub enum Stepped {
 impl Stepped {
     // Number, place and word of what refuses.
     pub fn cause(self) -> Cause
-        ensures* { λ r. ⌜ r ≡ cause_of (said_step self) ⌝ }
+        ensures { result ≡ cause_of (said_step self) }
     {
         match self {
             Stepped::Item(_, _, _) => Cause::of(0, 0, 0),
@@ -149,7 +149,7 @@ fn step_ready(
     at: HalfwordAddress,
 ) -> Stepped
     requires { Admitted table.now places.now tree.now image.now }
-    ensures* { λ r. ⌜ said_step r ≡ step_from (result (table_of table.now).entries) tree.now image.now at ⌝ }
+    ensures { said_step result ≡ step_from (result (table_of table.now).entries) tree.now image.now at }
 {
     let end = halfwords(image);
     if end <= at.0 {
@@ -163,7 +163,7 @@ fn step_ready(
 
 // The step at an address.
 fn step_at(image: &[u8], at: HalfwordAddress, table: &[u32], tree: &[u32]) -> Stepped
-    ensures* { λ r. ⌜ said_step r ≡ step_of (read_table table.now) tree.now image.now at ⌝ }
+    ensures { said_step result ≡ step_of (read_table table.now) tree.now image.now at }
 {
     let admission = refusals::admit(table, tree, image);
     let refusal = admission.refusal;
@@ -186,28 +186,28 @@ pub struct Cursor<'a> {
 
 // The cursor of an image, at an address.
 pub fn cursor_at<'a>(image: &'a [u8], at: HalfwordAddress) -> Cursor<'a>
-    ensures* { λ r. ⌜ (r.image ≡ image.entry) × (r.at ≡ at) ⌝ }
+    ensures { (result.image ≡ image.entry) × (result.at ≡ at) }
 {
     Cursor { image, at }
 }
 
 // The cursor at another address of the same image.
 pub fn moved<'a>(c: Cursor<'a>, at: HalfwordAddress) -> Cursor<'a>
-    ensures* { λ r. ⌜ (r.image ≡ c.entry.image) × (r.at ≡ at) ⌝ }
+    ensures { (result.image ≡ c.entry.image) × (result.at ≡ at) }
 {
     Cursor { image: c.image, at }
 }
 
 // The step at the cursor.
 pub fn next_item<'a, 'b, 'c>(c: Cursor<'a>, table: &'b [u32], tree: &'c [u32]) -> Stepped
-    ensures* { λ r. ⌜ said_step r ≡ step_of (read_table table.now) tree.now c.entry.image.now c.entry.at ⌝ }
+    ensures { said_step result ≡ step_of (read_table table.now) tree.now c.entry.image.now c.entry.at }
 {
     step_at(c.image, c.at, table, tree)
 }
 
 // One step, at an address of an image.
 pub fn step(table: &[u32], tree: &[u32], image: &[u8], at: HalfwordAddress) -> Stepped
-    ensures* { λ r. ⌜ said_step r ≡ step_of (read_table table.now) tree.now image.now at ⌝ }
+    ensures { said_step result ≡ step_of (read_table table.now) tree.now image.now at }
 {
     let start = HalfwordAddress(0);
     next_item(moved(cursor_at(image, start), at), table, tree)

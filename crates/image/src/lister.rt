@@ -2,7 +2,7 @@
 ghost use Rattle.std.specs.Prelude.{◌≡◌, ◌+◌, ◌*◌, ◌^◌, ◌≤◌, ◌<◌, eqb, get_or};
 ghost use Rattle.table.specs.Table.{entry_number, table_of};
 ghost use Rattle.flat.specs.Walk.{walk_of, mask_or_zero};
-ghost use Rattle.image.specs.Address.{halfword_at, word_at, halfwords as halfwordsOf};
+ghost use Rattle.image.specs.Address.{halfword_at, word_at, halfwords as halfwords_of};
 ghost use Rattle.image.specs.Items.{picked, last_picked, found_word, nothing_word, cut_word, item_of, item_at, items};
 ghost use Rattle.image.specs.Parts.{Placed, Usable, Admitted, Fills};
 
@@ -56,7 +56,7 @@ fn word(image: &[u8], a: HalfwordAddress) -> u32
 
 // The halfword at an address before the image's end: its bytes are there, and are not tested for it.
 fn present_half(image: &[u8], a: HalfwordAddress) -> u16
-    requires { a.0 < halfwordsOf image.now }
+    requires { a.0 < halfwords_of image.now }
     ensures { result ≡ halfword_at image.now a }
 {
     let o = byte_offset(a);
@@ -66,7 +66,7 @@ fn present_half(image: &[u8], a: HalfwordAddress) -> u16
 
 // The full word at an address.
 fn full_word(image: &[u8], a: HalfwordAddress) -> u32
-    requires { (a.0 + 1 < halfwordsOf image.now) × (halfwordsOf image.now ≤ 2 ^ 20) }
+    requires { (a.0 + 1 < halfwords_of image.now) × (halfwords_of image.now ≤ 2 ^ 20) }
     ensures { result ≡ word_at image.now a }
 {
     both_halves(
@@ -176,7 +176,7 @@ fn full_item(
     image: &[u8],
     a: HalfwordAddress,
 ) -> Item
-    requires { Admitted table.now places.now tree.now image.now × (a.0 + 1 < halfwordsOf image.now) }
+    requires { Admitted table.now places.now tree.now image.now × (a.0 + 1 < halfwords_of image.now) }
     ensures { result ≡ item_at (table_of table.now).entries image.now a }
 {
     let end = halfwords(image);
@@ -191,7 +191,7 @@ fn last_item(
     image: &[u8],
     a: HalfwordAddress,
 ) -> Item
-    requires { Admitted table.now places.now tree.now image.now × (a.0 + 1 ≡ halfwordsOf image.now) }
+    requires { Admitted table.now places.now tree.now image.now × (a.0 + 1 ≡ halfwords_of image.now) }
     ensures { result ≡ item_at (table_of table.now).entries image.now a }
 {
     let end = halfwords(image);
@@ -207,7 +207,7 @@ pub fn item_at(
     image: &[u8],
     a: HalfwordAddress,
 ) -> Item
-    requires { Admitted table.now places.now tree.now image.now × (a.0 < halfwordsOf image.now) }
+    requires { Admitted table.now places.now tree.now image.now × (a.0 < halfwords_of image.now) }
     ensures { result ≡ item_at (table_of table.now).entries image.now a }
 {
     let end = halfwords(image);

@@ -11,7 +11,7 @@ use mir.Facts.{to_z-of_z}
 use Rattle.words.specs.Outcome.{Outcome, result, faulty, refused}
 use Rattle.numbers.specs.Whole.{on_side}
 use Rattle.numbers.specs.Calls.{signed_of}
-use Rattle.numbers.specs.Answers.{saidSigned}
+use Rattle.numbers.specs.Answers.{said_signed}
 use Rattle.numbers.specs.declared.SignedNumber.{SignedNumber}
 use Rattle.numbers.specs.declared.SignedNumber.TheVariants.{Number}
 use Rattle.numbers.proofs.Numbers.{signed_small}
@@ -28,7 +28,7 @@ narrow w v = go (signed_of w v) refl
     go (refused n p x) e = tt
 
 -- a narrow number z, read back from its bits, on its side
-module _ (answer : SignedNumber) (z : ℤ) (e : answer ≡ Number z) (h : Narrow (saidSigned answer)) (b : Bool) (n : ℕ) (s : on_side b n ≡ to_z w64 (of_z w64 z)) where
+module _ (answer : SignedNumber) (z : ℤ) (e : answer ≡ Number z) (h : Narrow (said_signed answer)) (b : Bool) (n : ℕ) (s : on_side b n ≡ to_z w64 (of_z w64 z)) where
   small : mag z < 2 ^ 32
   unfolding Narrow
   small = rw e at h
@@ -39,5 +39,5 @@ module _ (answer : SignedNumber) (z : ℤ) (e : answer ≡ Number z) (h : Narrow
   pub size_narrow : n < 2 ^ 32
   size_narrow = omega (arith, sym (size_of b n) ∙ ap mag side_is, small)
 
-  pub whole_packed : (r : ℕ) → r ≡ packed_whole (on_side b n) → r ≡ packed_signed (saidSigned answer)
+  pub whole_packed : (r : ℕ) → r ≡ packed_whole (on_side b n) → r ≡ packed_signed (said_signed answer)
   whole_packed r p = rw e (p ∙ ap packed_whole side_is)

@@ -7,13 +7,13 @@ ghost use Rattle.walker.specs.Walked.{said, Small, walk_bytes};
 ghost use Rattle.image.specs.Listing.{said_list};
 ghost use Rattle.table.specs.Check.{read_table};
 ghost use Rattle.tree.specs.Generate.{measure_of};
-ghost use Rattle.maker.specs.Answers.{saidMeasure};
-ghost use Rattle.checker.specs.Checker.{check_of, said as saidCheck};
-ghost use Rattle.cost.specs.Cost.{cycles_of, said as saidCycles};
-ghost use Rattle.withdrawal.specs.Counted.{changed_of, said as saidChanged};
+ghost use Rattle.maker.specs.Answers.{said_measure};
+ghost use Rattle.checker.specs.Checker.{check_of, said as said_check};
+ghost use Rattle.cost.specs.Cost.{cycles_of, said as said_cycles};
+ghost use Rattle.withdrawal.specs.Counted.{changed_of, said as said_changed};
 ghost use Rattle.numbers.specs.Whole.{on_side};
 ghost use Rattle.numbers.specs.Calls.{signed_of, stored_of};
-ghost use Rattle.numbers.specs.Answers.{saidSigned, saidStored, saidText};
+ghost use Rattle.numbers.specs.Answers.{said_signed, said_stored, said_text};
 ghost use Rattle.kilnumber.specs.Packed.{packed, packed_number, packed_check, packed_measure, packed_count, packed_whole, packed_signed, Narrow, ListsPacked, WritesPacked};
 
 use checker::Checked;
@@ -80,7 +80,7 @@ pub extern "C" fn kilnumber_list(table: &[u32], tree: &[u32], image: &[u8], out:
 
 // A check's answer in 64 bits.
 fn pack_check(answer: Checked) -> u64
-    ensures { result ≡ packed_check (saidCheck answer) }
+    ensures { result ≡ packed_check (said_check answer) }
 {
     match answer {
         Checked::Yes => 0,
@@ -100,7 +100,7 @@ pub extern "C" fn kilnumber_check(table: &[u32], tree: &[u32]) -> u64
 
 // A size in 64 bits.
 fn pack_measure(answer: Measured) -> u64
-    ensures { result ≡ packed_measure (saidMeasure answer) }
+    ensures { result ≡ packed_measure (said_measure answer) }
 {
     match answer {
         Measured::Tree(nodes, tests) => (nodes as u64) + (tests as u64) * 65536,
@@ -122,7 +122,7 @@ pub extern "C" fn kilnumber_measure(table: &[u32]) -> u64
 
 // An entry's cycles in 64 bits.
 fn pack_cycles(answer: Costed) -> u64
-    ensures { result ≡ packed_number (saidCycles answer) }
+    ensures { result ≡ packed_number (said_cycles answer) }
 {
     match answer {
         Costed::Cycles(count) => count as u64,
@@ -142,7 +142,7 @@ pub extern "C" fn kilnumber_cycles(table: &[u32], entry: u32) -> u64
 
 // A count of words in 64 bits.
 fn pack_changed(answer: Changed) -> u64
-    ensures { result ≡ packed_count (saidChanged answer) }
+    ensures { result ≡ packed_count (said_changed answer) }
 {
     match answer {
         Changed::Words(count) => {
@@ -179,8 +179,8 @@ fn pack_whole(below: bool, size: u64) -> u64
 
 // A signed number's answer in 64 bits.
 fn pack_signed(answer: SignedNumber) -> u64
-    requires { Narrow (saidSigned answer) }
-    ensures { result ≡ packed_signed (saidSigned answer) }
+    requires { Narrow (said_signed answer) }
+    ensures { result ≡ packed_signed (said_signed answer) }
 {
     match answer {
         SignedNumber::Number(number) => {
@@ -203,7 +203,7 @@ pub extern "C" fn kilnumber_signed(field: u32, value: u32) -> u64
 
 // A stored value's answer in 64 bits.
 fn pack_stored(answer: StoredValue) -> u64
-    ensures { result ≡ packed_number (saidStored answer) }
+    ensures { result ≡ packed_number (said_stored answer) }
 {
     match answer {
         StoredValue::Value(value) => value as u64,
@@ -223,7 +223,7 @@ pub extern "C" fn kilnumber_stored(field: u32, number: i64) -> u64
 
 // A text's answer in 64 bits.
 fn pack_length(answer: TextLength) -> u64
-    ensures { result ≡ packed_number (saidText answer) }
+    ensures { result ≡ packed_number (said_text answer) }
 {
     match answer {
         TextLength::Length(length) => length as u64,

@@ -26,7 +26,7 @@ use Rattle.tree.specs.Generate.{table_with, fits, judged, generate_of, left_by, 
 use Rattle.tree.specs.Reach.{lowest_unreached}
 use Rattle.tree.proofs.Sizes.{length_nodes}
 use Rattle.tree.proofs.Sizing.{counted, survey_generates}
-use Rattle.maker.specs.Answers.{saidGenerate, Generates}
+use Rattle.maker.specs.Answers.{said_generate, Generates}
 use Rattle.maker.specs.Parts.{WritesTree, first_of, Making, lowest_unmarked, by_leaves, judged_by, said_judged, Judging}
 use Rattle.maker.specs.declared.First.TheVariants.{Clean, Clash}
 use Rattle.maker.specs.declared.Made.{Made}
@@ -125,7 +125,7 @@ module _ (es : List Entry) (width : ℕ) (out : List ℕ) {limit : ℕ} (is : li
   answers = ap counted (judging.said (length out) is) ∙ sym (survey_generates (result (table_with es width)) (length out))
 
   -- a refusal leaves the buffer all zero
-  pub cleared : (g : Generated) {n p w : ℕ} → counted (said_judged j) ≡ refused n p w → saidGenerate g ≡ refused n p w → WritesTree es width out (replicate (length out) 0) g
+  pub cleared : (g : Generated) {n p w : ℕ} → counted (said_judged j) ≡ refused n p w → said_generate g ≡ refused n p w → WritesTree es width out (replicate (length out) 0) g
   unfolding buffer_of left_by
   cleared g q e = record { answer = e ∙ sym q ∙ answers; buffer = rw (sym answers ∙ q) }
 

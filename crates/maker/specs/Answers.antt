@@ -9,22 +9,22 @@ use Rattle.maker.specs.declared.Measured.{Measured}
 use Rattle.maker.specs.declared.Measured.TheVariants as measured
 
 -- the paper's number and values for each case of generating's answer
-abbrev pub saidGenerate : Generated → Outcome ℕ
-saidGenerate (generated.Words n) = result n
-saidGenerate generated.NoFit = refused 5 0 0
-saidGenerate (generated.Ambiguous w) = refused 6 0 w
-saidGenerate (generated.Unreached e) = refused 19 e 0
-saidGenerate (generated.Refused number place) = faulty number place
+abbrev pub said_generate : Generated → Outcome ℕ
+said_generate (generated.Words n) = result n
+said_generate generated.NoFit = refused 5 0 0
+said_generate (generated.Ambiguous w) = refused 6 0 w
+said_generate (generated.Unreached e) = refused 19 e 0
+said_generate (generated.Refused number place) = faulty number place
 
 -- generating answers what the definition says, and the whole buffer is as the definition says
 pub record Generates (ws before after : List ℕ) (r : Generated) : Type 0 where
-  pub answer : saidGenerate r ≡ generate_of (read_table ws) (length before)
+  pub answer : said_generate r ≡ generate_of (read_table ws) (length before)
   pub buffer : after ≡ buffer_of (read_table ws) before
 
 -- the same of sizing's answer
-abbrev pub saidMeasure : Measured → Outcome Measure
-saidMeasure (measured.Tree n d) = result (record { nodes = n; tests = d })
-saidMeasure measured.NoFit = refused 5 0 0
-saidMeasure (measured.Ambiguous w) = refused 6 0 w
-saidMeasure (measured.Unreached e) = refused 19 e 0
-saidMeasure (measured.Refused number place) = faulty number place
+abbrev pub said_measure : Measured → Outcome Measure
+said_measure (measured.Tree n d) = result (record { nodes = n; tests = d })
+said_measure measured.NoFit = refused 5 0 0
+said_measure (measured.Ambiguous w) = refused 6 0 w
+said_measure (measured.Unreached e) = refused 19 e 0
+said_measure (measured.Refused number place) = faulty number place

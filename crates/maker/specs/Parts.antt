@@ -10,7 +10,7 @@ use Rattle.cell.specs.Cell.{Cell, zero_side, one_side}
 use Rattle.tree.specs.Tree.{Tree, leaf, test, below, tree, size, depth, conflict}
 use Rattle.tree.specs.Written.{nodes}
 use Rattle.tree.specs.Generate.{table_with, generate_of, buffer_of, Measure, survey_of}
-use Rattle.maker.specs.Answers.{saidGenerate}
+use Rattle.maker.specs.Answers.{said_generate}
 use Rattle.maker.specs.declared.First.{First}
 use Rattle.maker.specs.declared.First.TheVariants.{Clean, Clash}
 use Rattle.maker.specs.declared.Made.{Made}
@@ -21,7 +21,7 @@ use Rattle.maker.specs.declared.Generated.{Generated}
 
 -- generating, of the tree of entries that are read
 pub record WritesTree (es : List Entry) (width : ℕ) (before after : List ℕ) (r : Generated) : Type 0 where
-  pub answer : saidGenerate r ≡ generate_of (result (table_with es width)) (length before)
+  pub answer : said_generate r ≡ generate_of (result (table_with es width)) (length before)
   pub buffer : after ≡ buffer_of (result (table_with es width)) before
 
 -- the tree of a cell in which bit b is tested

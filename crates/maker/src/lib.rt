@@ -1,9 +1,11 @@
 // The tree of a table, made: generating it in its written form, and sizing it before memory is lent for it.
+#![tactic(auto)]
+
 ghost use Rattle.std.specs.Prelude.{◌≡◌};
 ghost use Rattle.words.specs.Outcome.{cause_of};
 ghost use Rattle.table.specs.Check.{read_table};
 ghost use Rattle.tree.specs.Generate.{measure_of};
-ghost use Rattle.maker.specs.Answers.{saidGenerate, saidMeasure, Generates};
+ghost use Rattle.maker.specs.Answers.{said_generate, said_measure, Generates};
 
 use words::Cause;
 
@@ -50,7 +52,7 @@ pub enum Generated {
 impl Generated {
     // Number, place and word of what refuses.
     pub fn cause(self) -> Cause
-        ensures { result ≡ cause_of (saidGenerate self) }
+        ensures { result ≡ cause_of (said_generate self) }
     {
         match self {
             Generated::Words(_) => Cause::of(0, 0, 0),
@@ -91,7 +93,7 @@ pub enum Measured {
 impl Measured {
     // Number, place and word of what refuses.
     pub fn cause(self) -> Cause
-        ensures { result ≡ cause_of (saidMeasure self) }
+        ensures { result ≡ cause_of (said_measure self) }
     {
         match self {
             Measured::Tree(_, _) => Cause::of(0, 0, 0),
@@ -105,7 +107,7 @@ impl Measured {
 
 // The size of the tree of a table, without a buffer for it.
 pub fn measure(table: &[u32]) -> Measured
-    ensures { saidMeasure result ≡ measure_of (read_table table.now) }
+    ensures { said_measure result ≡ measure_of (read_table table.now) }
 {
     let reading = table::read(table);
     let answer = reading.answer;

@@ -1,25 +1,25 @@
 // The whole tree of a table without fault: written into a lent buffer, or only sized; and what is judged of it.
 ghost use Rattle.std.specs.Prelude.{◌≡◌, ℕ, ◌≤◌, ◌<◌, length, replicate};
-ghost use Rattle.words.specs.Outcome.{result};
+ghost use Rattle.words.specs.Outcome.{result as answered};
 ghost use Rattle.table.specs.Ready.{Ready};
 ghost use Rattle.table.specs.Table.{entries_at};
 ghost use Rattle.tree.specs.Written.{header_word};
 ghost use Rattle.tree.specs.Generate.{table_with, survey_of};
-ghost use Rattle.maker.specs.Answers.{saidMeasure};
+ghost use Rattle.maker.specs.Answers.{said_measure};
 ghost use Rattle.maker.specs.Parts.{WritesTree, lowest_unmarked, by_leaves, judged_by, Judging};
 
 use crate::{First, Generated, Judged, LIMIT, Made, Measured, nodes};
 
 fn header_word(width: u32, nodes: usize) -> u32
     requires { (width < 64) × (nodes < 65536) }
-    ensures* { λ r. ⌜ r ≡ header_word width nodes ⌝ }
+    ensures { result ≡ header_word width nodes }
 {
     ((nodes as u32) | (width << 16)) | (7 << 28)
 }
 
 // Sets every word of a buffer to zero.
 fn clear(out: &mut [u32])
-    ensures* { λ _. ⌜ out.new ≡ replicate (length out.old) 0 ⌝ }
+    ensures { out.new ≡ replicate (length out.old) 0 }
 {
     let mut i = 0;
     while i < out.len() {
@@ -30,7 +30,7 @@ fn clear(out: &mut [u32])
 
 // No entry is marked.
 fn no_marks() -> [u8; 256]
-    ensures* { λ r. ⌜ r ≡ replicate 256 0 ⌝ }
+    ensures { result ≡ replicate 256 0 }
 {
     [0u8; 256]
 }
@@ -38,7 +38,7 @@ fn no_marks() -> [u8; 256]
 // Judges a tree without conflict: the lowest entry that no leaf names, which no word selects; else the tree stands.
 fn judge_leaves(marks: &[u8; 256], count: usize, next: usize, tests: u32) -> Judged
     requires { count ≤ 256 }
-    ensures* { λ r. ⌜ r ≡ by_leaves (lowest_unmarked marks.now count) next tests ⌝ }
+    ensures { result ≡ by_leaves (lowest_unmarked marks.now count) next tests }
 {
     let mut e = 0;
     while e < count {
@@ -53,7 +53,7 @@ fn judge_leaves(marks: &[u8; 256], count: usize, next: usize, tests: u32) -> Jud
 // Judges a whole tree, from what its maker answers and marks: fit, then ambiguity, then reach.
 fn judge_tree(made: Made, marks: &[u8; 256], count: usize) -> Judged
     requires { count ≤ 256 }
-    ensures* { λ r. ⌜ r ≡ judged_by made (lowest_unmarked marks.now count) ⌝ }
+    ensures { result ≡ judged_by made (lowest_unmarked marks.now count) }
 {
     match made {
         Made::Full => Judged::NoFit,
@@ -74,7 +74,7 @@ fn make_whole(
     limit: usize,
 ) -> Judged
     requires { (limit ≤ 16384) × Ready table.now places.now width count }
-    ensures* { λ r. ⌜ Judging r out.old out.new (entries_at table.now count 1) width limit ⌝ }
+    ensures { Judging result out.old out.new (entries_at table.now count 1) width limit }
 {
     let mut marks = no_marks();
     let made = nodes::make_tree(table, places, count, width, 0, 0, out, 1, limit, &mut marks);
@@ -90,7 +90,7 @@ pub fn write_tree(
     out: &mut [u32],
 ) -> Generated
     requires { Ready table.now places.now width count }
-    ensures* { λ r. ⌜ WritesTree (entries_at table.now count 1) width out.old out.new r ⌝ }
+    ensures { WritesTree (entries_at table.now count 1) width out.old out.new result }
 {
     let limit = words::lesser(out.len(), LIMIT);
     let judged = make_whole(table, places, count, width, out, limit);
@@ -118,7 +118,7 @@ pub fn write_tree(
 // The size of the tree of a table without fault, within a room of so many words.
 pub fn survey(table: &[u32], places: &[u32; 256], count: usize, width: u32, room: usize) -> Measured
     requires { Ready table.now places.now width count }
-    ensures* { λ r. ⌜ saidMeasure r ≡ survey_of (result (table_with (entries_at table.now count 1) width)) room ⌝ }
+    ensures { said_measure result ≡ survey_of (answered (table_with (entries_at table.now count 1) width)) room }
 {
     let limit = words::lesser(room, LIMIT);
     // nodes have indices from 1 on, so none is kept

@@ -15,7 +15,7 @@ use Rattle.numbers.specs.Word.{word_check}
 use Rattle.numbers.specs.Whole.{number_of, in_range, value_of}
 use Rattle.numbers.specs.Decimals.{number_text}
 use Rattle.numbers.specs.Calls.{answer_of, signed_of, stored_of, text_of, length_of, buffer_after}
-use Rattle.numbers.specs.Answers.{judgedAs, Writes}
+use Rattle.numbers.specs.Answers.{judged_as, Writes}
 use Rattle.numbers.proofs.Judging.{refuses, Sound}
 
 -- a result, of a word without fault
@@ -26,15 +26,15 @@ answer_result fine false r x e = absurd (let y : ◌≡◌ {A = ℕ} 0 1 = cc in
 answer_result fine true r x e = (refl, refl, cc)
 
 -- a word with a fault
-pub signed_fault : (w v n : ℕ) → judging.Fault n ≡ judgedAs (word_check w) w → faulty n 0 ≡ signed_of w v
+pub signed_fault : (w v n : ℕ) → judging.Fault n ≡ judged_as (word_check w) w → faulty n 0 ≡ signed_of w v
 unfolding signed_of
 signed_fault w v n e = refuses _ _ _ _ _ e
 
-pub stored_fault : (w n : ℕ) (z : ℤ) → judging.Fault n ≡ judgedAs (word_check w) w → faulty n 0 ≡ stored_of w z
+pub stored_fault : (w n : ℕ) (z : ℤ) → judging.Fault n ≡ judged_as (word_check w) w → faulty n 0 ≡ stored_of w z
 unfolding stored_of
 stored_fault w n z e = refuses _ _ _ _ _ e
 
-text_fault : (w v n : ℕ) → judging.Fault n ≡ judgedAs (word_check w) w → faulty n 0 ≡ text_of w v
+text_fault : (w v n : ℕ) → judging.Fault n ≡ judged_as (word_check w) w → faulty n 0 ≡ text_of w v
 unfolding text_of
 text_fault w v n e = refuses _ _ _ _ _ e
 
@@ -76,7 +76,7 @@ module _ {w : ℕ} {sign : Bool} {fraction width : ℕ} (g : Sound w sign fracti
 
 -- a refusal before the buffer is looked at leaves it
 
-pub writes_fault : (w v n : ℕ) (before : List ℕ) → judging.Fault n ≡ judgedAs (word_check w) w → Writes (text_of w v) before before (texting.Fault n)
+pub writes_fault : (w v n : ℕ) (before : List ℕ) → judging.Fault n ≡ judged_as (word_check w) w → Writes (text_of w v) before before (texting.Fault n)
 unfolding length_of buffer_after
 writes_fault w v n before e = let h = text_fault w v n e in record { answer = rw (← h); buffer = rw (← h) }
 

@@ -6,7 +6,7 @@ use lib.Dec.{eqb}
 use lib.IntN.{ℤ}
 use Rattle.words.specs.Outcome.{Outcome, result, faulty, refused}
 use Rattle.words.proofs.Logic.{one_to_one}
-use Rattle.numbers.specs.Answers.{saidSigned, saidStored, saidText}
+use Rattle.numbers.specs.Answers.{said_signed, said_stored, said_text}
 use Rattle.numbers.specs.declared.SignedNumber.{SignedNumber}
 use Rattle.numbers.specs.declared.SignedNumber.TheVariants as signing
 use Rattle.numbers.specs.declared.StoredValue.{StoredValue}
@@ -21,14 +21,14 @@ signed_back (result z) = signing.Number z
 signed_back (faulty n p) = signing.Fault n
 signed_back (refused n p w) = signing.OutOfRange
 
-signed_same : (r : SignedNumber) → signed_back (saidSigned r) ≡ r
+signed_same : (r : SignedNumber) → signed_back (said_signed r) ≡ r
 unfolding signed_back
 signed_same (signing.Number z) = refl
 signed_same signing.OutOfRange = refl
 signed_same (signing.Fault n) = refl
 
-pub said_signed : (r s : SignedNumber) → saidSigned r ≡ saidSigned s → r ≡ s
-said_signed = one_to_one saidSigned signed_back signed_same
+pub said_signed_lem : (r s : SignedNumber) → said_signed r ≡ said_signed s → r ≡ s
+said_signed_lem = one_to_one said_signed signed_back signed_same
 
 -- ---- stored values
 
@@ -37,14 +37,14 @@ stored_back (result v) = storing.Value v
 stored_back (faulty n p) = storing.Fault n
 stored_back (refused n p w) = storing.OutOfRange
 
-stored_same : (r : StoredValue) → stored_back (saidStored r) ≡ r
+stored_same : (r : StoredValue) → stored_back (said_stored r) ≡ r
 unfolding stored_back
 stored_same (storing.Value v) = refl
 stored_same storing.OutOfRange = refl
 stored_same (storing.Fault n) = refl
 
-pub said_stored : (r s : StoredValue) → saidStored r ≡ saidStored s → r ≡ s
-said_stored = one_to_one saidStored stored_back stored_same
+pub said_stored_lem : (r s : StoredValue) → said_stored r ≡ said_stored s → r ≡ s
+said_stored_lem = one_to_one said_stored stored_back stored_same
 
 -- ---- texts
 
@@ -53,12 +53,12 @@ text_back (result n) = texting.Length n
 text_back (faulty n p) = texting.Fault n
 text_back (refused n p w) = cond (eqb n 12) texting.OutOfRange texting.NoRoom
 
-text_same : (r : TextLength) → text_back (saidText r) ≡ r
+text_same : (r : TextLength) → text_back (said_text r) ≡ r
 unfolding text_back
 text_same (texting.Length n) = refl
 text_same texting.NoRoom = refl
 text_same texting.OutOfRange = refl
 text_same (texting.Fault n) = refl
 
-pub said_text : (r s : TextLength) → saidText r ≡ saidText s → r ≡ s
-said_text = one_to_one saidText text_back text_same
+pub said_text_lem : (r s : TextLength) → said_text r ≡ said_text s → r ≡ s
+said_text_lem = one_to_one said_text text_back text_same

@@ -13,22 +13,22 @@ use Rattle.table.proofs.Laws.{then_l, then_r, need_true}
 use Rattle.numbers.specs.declared.Judged.TheVariants.{Fault, Values}
 use Rattle.numbers.specs.Word.{has_sign, word_check}
 use Rattle.numbers.specs.Calls.{answer_of}
-use Rattle.numbers.specs.Answers.{judgedAs}
+use Rattle.numbers.specs.Answers.{judged_as}
 
 -- what is judged of a word, for `simp`
-pub judged_fine : (w : ℕ) → judgedAs fine w ≡ Values (has_sign w) (fraction_of w) (field_width w)
-unfolding judgedAs
+pub judged_fine : (w : ℕ) → judged_as fine w ≡ Values (has_sign w) (fraction_of w) (field_width w)
+unfolding judged_as
 judged_fine w = refl
 
-pub judged_fault : (n p w : ℕ) → judgedAs (fault n p) w ≡ Fault n
-unfolding judgedAs
+pub judged_fault : (n p w : ℕ) → judged_as (fault n p) w ≡ Fault n
+unfolding judged_as
 judged_fault n p w = refl
 
 pub ruleset judged = (judged_fine, judged_fault)
 
 -- a word with a fault is refused
-pub refuses : {A : Type 0} (c : Check) (w n : ℕ) (fits : Bool) (r : A) → Fault n ≡ judgedAs c w → faulty n 0 ≡ answer_of c fits r
-unfolding judgedAs answer_of
+pub refuses : {A : Type 0} (c : Check) (w n : ℕ) (fits : Bool) (r : A) → Fault n ≡ judged_as c w → faulty n 0 ≡ answer_of c fits r
+unfolding judged_as answer_of
 refuses fine w n fits r e = absurd (let z : ◌≡◌ {A = ℕ} 0 1 = cc in omega arith)
 refuses (fault m p) w n fits r e = let h : n ≡ m = cc in ap (λ (x : ℕ). faulty x 0) h
 
@@ -65,8 +65,8 @@ module _ (w : ℕ) (good : word_check w ≡ fine) where
   unfolding form_fits
   fraction_few = leb-true _ _ (and_r _ (and_l _ form_good))
 
-sound_of : (w : ℕ) (sign : Bool) (fraction width : ℕ) (c : Check) → word_check w ≡ c → Values sign fraction width ≡ judgedAs c w → Sound w sign fraction width
-unfolding judgedAs
+sound_of : (w : ℕ) (sign : Bool) (fraction width : ℕ) (c : Check) → word_check w ≡ c → Values sign fraction width ≡ judged_as c w → Sound w sign fraction width
+unfolding judged_as
 sound_of w sign fraction width fine g e =
     let a : fraction ≡ fraction_of w = cc in
     let b : width ≡ field_width w = cc in
@@ -81,5 +81,5 @@ sound_of w sign fraction width fine g e =
     }
 sound_of w sign fraction width (fault n p) g e = absurd (let z : ◌≡◌ {A = ℕ} 0 1 = cc in omega arith)
 
-pub sound : (w : ℕ) (sign : Bool) (fraction width : ℕ) → Values sign fraction width ≡ judgedAs (word_check w) w → Sound w sign fraction width
+pub sound : (w : ℕ) (sign : Bool) (fraction width : ℕ) → Values sign fraction width ≡ judged_as (word_check w) w → Sound w sign fraction width
 sound w sign fraction width e = sound_of w sign fraction width (word_check w) refl e

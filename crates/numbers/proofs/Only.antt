@@ -3,14 +3,14 @@ use Prim.Native.Nat.{ℕ, zero, suc, ◌+◌, ◌-◌, ◌*◌, ◌/◌, ◌^◌
 use mathlib.Core.Bool.{true}
 use mathlib.Core.Path.{◌≡◌, refl, sym, ap, ap₂, ◌∙◌}
 use mathlib.Core.List.{List, [], ◌∷◌, ◌++◌}
-use native.Mathlib.Nat.{pow-suc, mul_assoc, mul_comm, mul-one, add-mul, add_assoc, zero-add, mul-div_cancel}
+use native.Mathlib.Nat.{pow-suc, mul_assoc, mul_comm, add-mul, add_assoc, zero-add, mul-div_cancel}
 use native.Mathlib.Omega.{arith}
-use lib.Dec.{leb, ltb}
+use lib.Dec.{ltb}
 use lib.IntN.{ℤ, nat_abs}
 use lib.ListN.{length, get_or}
 use lib.Pow.{pow_pos}
 use borrow.Author.Tests.{leb-true, ltb-true, ltb-false}
-use Rattle.words.specs.Tests.{all_of, ◌and◌}
+use Rattle.words.specs.Tests.{all_of}
 use Rattle.words.proofs.Logic.{cases, and_i, and_l, and_r}
 use Rattle.numbers.specs.Decimals.{sign_text, point_text}
 use Rattle.numbers.specs.Exact.{is_digit, decimal_from, decimal_of, Exact}

@@ -1,13 +1,15 @@
 // Operands with a sign or a point: a field's word by itself, and a stored value of it.
+#![tactic(auto)]
+
 ghost use Rattle.std.specs.Prelude.{◌≡◌, ◌∷◌, suc, ◌+◌, ◌-◌, ◌<◌, ◌≤◌, ◌^◌, nat_abs, length, take};
-ghost use Rattle.words.specs.Outcome.{result, cause_of};
+ghost use Rattle.words.specs.Outcome.{result as answered, cause_of};
 ghost use Rattle.table.specs.Check.{fine};
 ghost use Rattle.text.specs.Buffer.{Puts};
 ghost use Rattle.numbers.specs.Word.{word_check};
 ghost use Rattle.numbers.specs.Whole.{number_of, size_bits, in_range, value_of, on_side};
 ghost use Rattle.numbers.specs.Decimals.{divided, sign_text, fraction_text, number_text};
 ghost use Rattle.numbers.specs.Calls.{answer_of, signed_of, stored_of, text_of};
-ghost use Rattle.numbers.specs.Answers.{saidSigned, saidStored, saidText, Writes, judgedAs};
+ghost use Rattle.numbers.specs.Answers.{said_signed, said_stored, said_text, Writes, judged_as};
 
 use words::Cause;
 
@@ -26,7 +28,7 @@ enum Judged {
 
 // Judges a field's word.
 fn judge(field: u32) -> Judged
-    ensures* { λ r. ⌜ r ≡ judgedAs (word_check field) field ⌝ }
+    ensures { result ≡ judged_as (word_check field) field }
 {
     let fault = table::field_fault(field);
     if fault != 0 {
@@ -60,7 +62,7 @@ pub struct Side {
 // The whole number on a side.
 fn on_side(below: bool, size: u64) -> i64
     requires { size < 2 ^ 63 }
-    ensures* { λ r. ⌜ r ≡ on_side below size ⌝ }
+    ensures { result ≡ on_side below size }
 {
     let n = size as i64;
     if below { -1 - n } else { n }
@@ -68,7 +70,7 @@ fn on_side(below: bool, size: u64) -> i64
 
 // The side of a whole number.
 pub fn side_of(number: i64) -> Side
-    ensures* { λ r. ⌜ on_side r.below r.size ≡ number ⌝ }
+    ensures { on_side result.below result.size ≡ number }
 {
     if number < 0 {
         Side {
@@ -86,7 +88,7 @@ pub fn side_of(number: i64) -> Side
 // All ones of the width, less n.
 fn opposite(width: u32, n: u64) -> u64
     requires { (width ≤ 32) × (n < 2 ^ width) }
-    ensures* { λ r. ⌜ r ≡ 2 ^ width - suc n ⌝ }
+    ensures { result ≡ 2 ^ width - suc n }
 {
     (1 << width) - 1 - n
 }
@@ -94,7 +96,7 @@ fn opposite(width: u32, n: u64) -> u64
 // The side of a stored value.
 fn side_in(sign: bool, width: u32, value: u32) -> Side
     requires { (1 ≤ width) × (width ≤ 32) × (value < 2 ^ width) }
-    ensures* { λ r. ⌜ (on_side r.below r.size ≡ number_of sign width value) × (nat_abs (on_side r.below r.size) < 2 ^ 32) ⌝ }
+    ensures { (on_side result.below result.size ≡ number_of sign width value) × (nat_abs (on_side result.below result.size) < 2 ^ 32) }
 {
     let size = value as u64;
     if !sign {
@@ -118,7 +120,7 @@ pub enum SignedNumber {
 impl SignedNumber {
     // Number, place and word of what refuses.
     pub fn cause(self) -> Cause
-        ensures* { λ r. ⌜ r ≡ cause_of (saidSigned self) ⌝ }
+        ensures { result ≡ cause_of (said_signed self) }
     {
         match self {
             SignedNumber::Number(_) => Cause::of(0, 0, 0),
@@ -130,7 +132,7 @@ impl SignedNumber {
 
 // The signed whole number of a stored value.
 pub fn signed(field: u32, value: u32) -> SignedNumber
-    ensures* { λ r. ⌜ saidSigned r ≡ signed_of field value ⌝ }
+    ensures { said_signed result ≡ signed_of field value }
 {
     match judge(field) {
         Judged::Fault(fault) => SignedNumber::Fault(fault),
@@ -159,7 +161,7 @@ pub enum StoredValue {
 impl StoredValue {
     // Number, place and word of what refuses.
     pub fn cause(self) -> Cause
-        ensures* { λ r. ⌜ r ≡ cause_of (saidStored self) ⌝ }
+        ensures { result ≡ cause_of (said_stored self) }
     {
         match self {
             StoredValue::Value(_) => Cause::of(0, 0, 0),
@@ -172,7 +174,7 @@ impl StoredValue {
 // The bits of a value beside its sign.
 fn size_bits(sign: bool, width: u32) -> u32
     requires { 1 ≤ width }
-    ensures* { λ r. ⌜ r ≡ size_bits sign width ⌝ }
+    ensures { result ≡ size_bits sign width }
 {
     if sign { width - 1 } else { width }
 }
@@ -180,7 +182,7 @@ fn size_bits(sign: bool, width: u32) -> u32
 // The stored value of a number on a side.
 fn value_on(sign: bool, width: u32, below: bool, size: u64) -> StoredValue
     requires { (1 ≤ width) × (width ≤ 32) }
-    ensures* { λ r. ⌜ saidStored r ≡ answer_of fine (in_range sign width (on_side below size)) (value_of width (on_side below size)) ⌝ }
+    ensures { said_stored result ≡ answer_of fine (in_range sign width (on_side below size)) (value_of width (on_side below size)) }
 {
     let bits = size_bits(sign, width);
     if 1 << bits <= size {
@@ -199,7 +201,7 @@ fn value_on(sign: bool, width: u32, below: bool, size: u64) -> StoredValue
 
 // The stored value of a signed whole number.
 pub fn stored(field: u32, number: i64) -> StoredValue
-    ensures* { λ r. ⌜ saidStored r ≡ stored_of field number ⌝ }
+    ensures { said_stored result ≡ stored_of field number }
 {
     match judge(field) {
         Judged::Fault(fault) => StoredValue::Fault(fault),
@@ -219,7 +221,7 @@ pub fn stored(field: u32, number: i64) -> StoredValue
 // How far a number on a side is from zero.
 fn distance(below: bool, size: u64) -> u32
     requires { nat_abs (on_side below size) < 2 ^ 32 }
-    ensures* { λ r. ⌜ r ≡ nat_abs (on_side below size) ⌝ }
+    ensures { result ≡ nat_abs (on_side below size) }
 {
     if below {
         return (size + 1) as u32;
@@ -229,7 +231,7 @@ fn distance(below: bool, size: u64) -> u32
 
 // A minus sign at the start of a line, where the number is below zero.
 fn put_sign(line: &mut [u8], below: bool, size: u64) -> usize
-    ensures* { λ r. ⌜ Puts line.old 0 (sign_text (on_side below size)) line.new r ⌝ }
+    ensures { Puts line.old 0 (sign_text (on_side below size)) line.new result }
 {
     if below {
         return text::put_byte(line, 0, b'-');
@@ -240,7 +242,7 @@ fn put_sign(line: &mut [u8], below: bool, size: u64) -> usize
 // A point, and the first digits after it of rest / unit, by long division.
 fn divide(rest: u32, unit: u32, count: usize, digits: &mut [u8])
     requires { (rest < unit) × (unit ≤ 2 ^ 16) × (count < length digits.old) }
-    ensures* { λ r. ⌜ take (count + 1) digits.new ≡ 46 ∷ divided unit count rest ⌝ }
+    ensures { take (count + 1) digits.new ≡ 46 ∷ divided unit count rest }
 {
     let mut left = rest;
     let mut i: usize = 0;
@@ -255,7 +257,7 @@ fn divide(rest: u32, unit: u32, count: usize, digits: &mut [u8])
 // The point and the digits after it, where there are fraction bits.
 fn put_fraction(line: &mut [u8], at: usize, rest: u32, fraction: u32) -> usize
     requires { (fraction ≤ 16) × (rest < 2 ^ fraction) }
-    ensures* { λ r. ⌜ Puts line.old at (fraction_text fraction rest) line.new r ⌝ }
+    ensures { Puts line.old at (fraction_text fraction rest) line.new result }
 {
     if fraction == 0 {
         return at;
@@ -279,7 +281,7 @@ pub enum TextLength {
 impl TextLength {
     // Number, place and word of what refuses.
     pub fn cause(self) -> Cause
-        ensures* { λ r. ⌜ r ≡ cause_of (saidText self) ⌝ }
+        ensures { result ≡ cause_of (said_text self) }
     {
         match self {
             TextLength::Length(_) => Cause::of(0, 0, 0),
@@ -296,7 +298,7 @@ const LONGEST: usize = 28;
 // The text of a number on a side. It is made apart, so that all of it is written or nothing.
 fn put_number(below: bool, size: u64, fraction: u32, out: &mut [u8]) -> TextLength
     requires { (nat_abs (on_side below size) < 2 ^ 32) × (fraction ≤ 16) }
-    ensures* { λ r. ⌜ Writes (result (number_text fraction (on_side below size))) out.old out.new r ⌝ }
+    ensures { Writes (answered (number_text fraction (on_side below size))) out.old out.new result }
 {
     let steps = distance(below, size);
     let mut line = [0u8; LONGEST];
@@ -313,7 +315,7 @@ fn put_number(below: bool, size: u64, fraction: u32, out: &mut [u8]) -> TextLeng
 
 // Writes a stored value as exact decimal text to the start of a buffer.
 pub fn put_text(field: u32, value: u32, out: &mut [u8]) -> TextLength
-    ensures* { λ r. ⌜ Writes (text_of field value) out.old out.new r ⌝ }
+    ensures { Writes (text_of field value) out.old out.new result }
 {
     match judge(field) {
         Judged::Fault(fault) => TextLength::Fault(fault),

@@ -21,7 +21,7 @@ use Rattle.selection.specs.Selection.{select}
 use Rattle.selection.specs.Lookup.{looked_up, look_of}
 use Rattle.operands.specs.Fields.{values_in}
 use Rattle.operands.specs.Calls.{Decoded, entry_values, none_selected, decoded_as, decode_of, buffer_after}
-use Rattle.operands.specs.Answers.{firstWords, saidDecode, noRoomOf, Decodes}
+use Rattle.operands.specs.Answers.{first_words, said_decode, no_room_of, Decodes}
 use Rattle.operands.specs.declared.Decoding.{Decoding}
 use Rattle.operands.specs.declared.Decoding.TheVariants as decoding
 use Rattle.operands.proofs.Inverse.{selected_lt, decodes, length_values}
@@ -29,27 +29,27 @@ use Rattle.operands.proofs.Inverse.{selected_lt, decodes, length_values}
 -- ---- in a buffer under 8 words
 
 -- the reading as its two cases are
-pub no_room_faulty : (r : Outcome Table) (a b : ℕ) → r ≡ faulty a b → faulty a b ≡ noRoomOf r
-unfolding noRoomOf
+pub no_room_faulty : (r : Outcome Table) (a b : ℕ) → r ≡ faulty a b → faulty a b ≡ no_room_of r
+unfolding no_room_of
 no_room_faulty r a b e = rw e
 
-pub no_room_read : (r : Outcome Table) (t : Table) → r ≡ result t → refused 10 0 0 ≡ noRoomOf r
-unfolding noRoomOf
+pub no_room_read : (r : Outcome Table) (t : Table) → r ≡ result t → refused 10 0 0 ≡ no_room_of r
+unfolding no_room_of
 no_room_read r t e = rw e
 
-decode_little : (r : Outcome Table) (w room : ℕ) → room < 8 → decode_of r w room ≡ noRoomOf r
-unfolding decode_of noRoomOf
+decode_little : (r : Outcome Table) (w room : ℕ) → room < 8 → decode_of r w room ≡ no_room_of r
+unfolding decode_of no_room_of
 decode_little (faulty n p) w room h = refl
 decode_little (refused n p x) w room h = refl
 decode_little (result t) w room h = rw (lt-leb 8 room h)
 
 -- no case but an entry says anything of the buffer
 module _ (ws : List ℕ) (w : ℕ) (out : List ℕ) where
-  keeps : (r : Decoding) → saidDecode r out ≡ decode_of (read_table ws) w (length out) → buffer_after (saidDecode r out) out ≡ out → Decodes ws w out out r
+  keeps : (r : Decoding) → said_decode r out ≡ decode_of (read_table ws) w (length out) → buffer_after (said_decode r out) out ≡ out → Decodes ws w out out r
   keeps r e q = record { answer = e; buffer = rw (← e) (sym q) }
 
-  no_room_keeps : (x : Outcome Table) (r : Decoding) → saidDecode r [] ≡ noRoomOf x → (saidDecode r out ≡ noRoomOf x) × (buffer_after (saidDecode r out) out ≡ out)
-  unfolding noRoomOf buffer_after
+  no_room_keeps : (x : Outcome Table) (r : Decoding) → said_decode r [] ≡ no_room_of x → (said_decode r out ≡ no_room_of x) × (buffer_after (said_decode r out) out ≡ out)
+  unfolding no_room_of buffer_after
   no_room_keeps (faulty n p) (decoding.Entry e k) h = absurd (let z : ◌≡◌ {A = ℕ} 0 1 = cc in omega arith)
   no_room_keeps (refused n p x) (decoding.Entry e k) h = absurd (let z : ◌≡◌ {A = ℕ} 0 1 = cc in omega arith)
   no_room_keeps (result t) (decoding.Entry e k) h = absurd (let z : ◌≡◌ {A = ℕ} 0 1 = cc in omega arith)
@@ -59,7 +59,7 @@ module _ (ws : List ℕ) (w : ℕ) (out : List ℕ) where
   no_room_keeps x decoding.NoRoom h = (h, refl)
   no_room_keeps x (decoding.Refused n p) h = (h, refl)
 
-  pub decode_short : (r : Decoding) → saidDecode r [] ≡ noRoomOf (read_table ws) → length out < 8 → Decodes ws w out out r
+  pub decode_short : (r : Decoding) → said_decode r [] ≡ no_room_of (read_table ws) → length out < 8 → Decodes ws w out out r
   decode_short r e h =
       let k = no_room_keeps (read_table ws) r e in
       keeps r (k.0 ∙ sym (decode_little (read_table ws) w (length out) h)) k.1
@@ -93,7 +93,7 @@ decode_look (result t) w room h =
 
 module _ (ws : List ℕ) (w : ℕ) (out : List ℕ) (h : 8 ≤ length out) where
   -- a refusal of lookup is decoding's, and so is nothing
-  pub decode_refused : (r : Decoding) (n p x : ℕ) → saidDecode r out ≡ refused n p x → refused n p x ≡ look_of (read_table ws) w → Decodes ws w out out r
+  pub decode_refused : (r : Decoding) (n p x : ℕ) → said_decode r out ≡ refused n p x → refused n p x ≡ look_of (read_table ws) w → Decodes ws w out out r
   unfolding buffer_after decode_by
   decode_refused r n p x q e = keeps ws w out r (q ∙ rw (decode_look (read_table ws) w (length out) h, ← e)) (rw q)
 
@@ -136,8 +136,8 @@ look_entry fine t w e h =
 look_entry (fault n p) t w e h = absurd (let z : ◌≡◌ {A = ℕ} 0 1 = cc in omega arith)
 
 -- the first words of values and what follows
-firsts_are : (vs rest : List ℕ) → firstWords (length vs) (vs ++ rest) ≡ vs
-unfolding firstWords
+firsts_are : (vs rest : List ℕ) → first_words (length vs) (vs ++ rest) ≡ vs
+unfolding first_words
 firsts_are [] rest = refl
 firsts_are (v ∷ vs) rest = ap (λ (z : List ℕ). v ∷ z) (firsts_are vs rest)
 
@@ -162,6 +162,6 @@ module _ (ws : List ℕ) (w e place : ℕ) (l : result (some e) ≡ look_of (rea
       let b : after ≡ vs ++ drop (length vs) before
       = a ∙ sets-eq vs before 0 (omega (arith, s.few)) ∙ ap (λ (z : ℕ). vs ++ drop z before) (zero-add (length vs)) in
       record {
-        answer = rw d (ap (λ (z : List ℕ). result (entry_values e z)) (ap (firstWords n) b ∙ ap (λ (z : ℕ). firstWords z (vs ++ drop (length vs) before)) (sym k) ∙ firsts_are vs _));
+        answer = rw d (ap (λ (z : List ℕ). result (entry_values e z)) (ap (first_words n) b ∙ ap (λ (z : ℕ). first_words z (vs ++ drop (length vs) before)) (sym k) ∙ firsts_are vs _));
         buffer = rw d b;
       }

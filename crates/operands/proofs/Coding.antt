@@ -13,7 +13,7 @@ use lib.Seq.{sets, drop-cons}
 use Rattle.words.specs.Words.{word, part}
 use Rattle.table.specs.Table.{field_at, fields_at, field_low, field_width}
 use Rattle.operands.specs.Fields.{values_in, placed, misfit}
-use Rattle.operands.specs.Answers.{InWord, word_made, misfit-at, makes}
+use Rattle.operands.specs.Answers.{InWord, word_made, misfit_at, makes}
 
 module _ (ws : List ℕ) (w : ℕ) where
   -- one more value written
@@ -46,7 +46,7 @@ module _ (ws : List ℕ) (p : ℕ) (vs : List ℕ) (k : ℕ) (h : k < length vs)
 
   module _ (w : ℕ) where
     pub makes_stop : ltb (get_or vs k 0) (2 ^ field_width (word ws (p + k))) ≡ false
-        → makes k w (fields_at ws (length vs - k) (p + k)) (drop k vs) ≡ misfit-at k
+        → makes k w (fields_at ws (length vs - k) (p + k)) (drop k vs) ≡ misfit_at k
     unfolding makes misfit
     makes_stop e = rw (fields_here, values_here, e)
 

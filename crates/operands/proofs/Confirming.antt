@@ -10,8 +10,9 @@ use lib.ListN.{length}
 use borrow.Author.Tests.{eq-eqb, ne_eqb, lt-ltb, le-ltb}
 use Rattle.words.specs.Tests.{◌and◌}
 use Rattle.words.specs.Words.{word}
+use lib.Bits.{bit_or}
 use Rattle.words.specs.Outcome.{Outcome, result, faulty, refused}
-use Rattle.table.specs.Table.{Entry, Table, Field, entry_number, table_of, fields_at, fields_place, fields_of, size_of, count_of, width_of}
+use Rattle.table.specs.Table.{Entry, Table, Field, entry_number, table_of, fields_at, fields_place, fields_of, field_bits, size_of, count_of, width_of}
 use Rattle.table.specs.Check.{fine, table_check, fields_check, read_table}
 use Rattle.table.proofs.Laws.{then_l, then_r, length_entries, length_fields, first_width, field_some, field_below}
 use Rattle.table.proofs.Views.{entry_field_check}
@@ -20,7 +21,7 @@ use Rattle.selection.specs.Selection.{select}
 use Rattle.selection.specs.Lookup.{looked_up, look_of}
 use Rattle.operands.specs.Fields.{placed, misfit}
 use Rattle.operands.specs.Calls.{encoded_as, encoded_from, encode_of}
-use Rattle.operands.specs.Answers.{InWord, word_made, misfit-at, madeOr, makes, confirmed, madeFor}
+use Rattle.operands.specs.Answers.{InWord, word_made, misfit_at, made_or, makes, confirmed, made_for}
 use Rattle.operands.proofs.Cover.{placed_taken}
 use Rattle.operands.proofs.Inverse.{Good, entry_good, own_lt}
 use Rattle.operands.proofs.Answering.{Stands}
@@ -49,12 +50,12 @@ module _ (x : Outcome (Option ℕ)) (e w : ℕ) where
 
 -- ---- a misfit, or a word made; o is the opcode's value as the code has it
 module _ (r : Outcome Table) (e o o' : ℕ) (fs : List Field) (vs : List ℕ) (q : o ≡ o') where
-  pub made_misfit : (k : ℕ) → misfit-at k ≡ makes 0 o fs vs → refused 12 k 0 ≡ madeFor r e (makes 0 o' fs vs)
-  unfolding madeFor
+  pub made_misfit : (k : ℕ) → misfit_at k ≡ makes 0 o fs vs → refused 12 k 0 ≡ made_for r e (makes 0 o' fs vs)
+  unfolding made_for
   made_misfit k h = rw (← q, ← h)
 
-  pub made_word : (w : ℕ) (a : Outcome ℕ) → word_made w ≡ makes 0 o fs vs → a ≡ confirmed (look_of r w) e w → a ≡ madeFor r e (makes 0 o' fs vs)
-  unfolding madeFor
+  pub made_word : (w : ℕ) (a : Outcome ℕ) → word_made w ≡ makes 0 o fs vs → a ≡ confirmed (look_of r w) e w → a ≡ made_for r e (makes 0 o' fs vs)
+  unfolding made_for
   made_word w a h t = rw (← q, ← h) t
 
 -- ---- the answers of encoding
@@ -70,8 +71,8 @@ confirm_is t e w h = rw (lt-ltb w _ h) (confirm_choice (select t.entries w) e w)
 
 made_is : (t : Table) (e : ℕ) (vs : List ℕ) (o : Option ℕ)
     → (o ≡ none → placed (entry_number t.entries e).opcode.value (entry_number t.entries e).fields vs < 2 ^ t.width)
-    → madeFor (result t) e (madeOr o (placed (entry_number t.entries e).opcode.value (entry_number t.entries e).fields vs)) ≡ encoded_from t.entries e vs o
-unfolding madeFor encoded_from
+    → made_for (result t) e (made_or o (placed (entry_number t.entries e).opcode.value (entry_number t.entries e).fields vs)) ≡ encoded_from t.entries e vs o
+unfolding made_for encoded_from
 made_is t e vs (some i) h = refl
 made_is t e vs none h = confirm_is t e _ (h refl)
 
@@ -106,13 +107,13 @@ module _ (ws : List ℕ) (t : table_check ws ≡ fine) (e : ℕ) (vs : List ℕ)
         own_lt _ _ _ g.short (placed_taken _ _ _ 0 (entry_number (table_of ws).entries e).fields vs g.cover g.value_in_lem (l ∙ sym count_is) m).inside
 
     pub encode_made : (a : Outcome ℕ) → length vs ≡ fields_of (word ws p)
-        → a ≡ madeFor (read_table ws) e (makes 0 (word ws (p + 2)) (fields_at ws (length vs) (fields_place ws p)) vs) → a ≡ encode_of (read_table ws) e vs
+        → a ≡ made_for (read_table ws) e (makes 0 (word ws (p + 2)) (fields_at ws (length vs) (fields_place ws p)) vs) → a ≡ encode_of (read_table ws) e vs
     unfolding encode_of ◌and◌ makes
     encode_made a l q =
         let es = (table_of ws).entries in
         let k : eqb (length vs) (length (entry_number es e).fields) ≡ true = eq-eqb _ _ (l ∙ sym count_is) in
         let y : (entry_number es e).fields ≡ fields_at ws (length vs) (fields_place ws p) = fields_are ∙ ap (λ (x : ℕ). fields_at ws x (fields_place ws p)) (sym l) in
-        let m : madeFor (read_table ws) e (makes 0 (word ws (p + 2)) (fields_at ws (length vs) (fields_place ws p)) vs) ≡ encoded_from es e vs (misfit 0 (entry_number es e).fields vs)
+        let m : made_for (read_table ws) e (makes 0 (word ws (p + 2)) (fields_at ws (length vs) (fields_place ws p)) vs) ≡ encoded_from es e vs (misfit 0 (entry_number es e).fields vs)
         = rw (t, ← value_is, ← y) (made_is (table_of ws) e vs (misfit 0 (entry_number es e).fields vs) (λ z. made_small l z)) in
         q ∙ m ∙ sym (encode_in k)
       where
@@ -127,7 +128,7 @@ in_word ws e width size used zero p h t = tt
 in_word ws e width size used (suc n) p h t =
     let a = field_some ws width size used p (then_l _ _ t) in
     let b = field_below ws width size used p (then_l _ _ t) in
-    (omega arith, omega arith, in_word ws e width size _ n (p + 1) h (then_r _ _ t))
+    (omega arith, omega arith, in_word ws e width size (bit_or used (field_bits (word ws p))) n (p + 1) h (then_r _ _ t))
 
 pub entry_in_word : (ws : List ℕ) (e p n : ℕ) → table_check ws ≡ fine → Stands ws e p → n ≡ fields_of (word ws p) → InWord (fields_at ws n (fields_place ws p))
 unfolding table_check

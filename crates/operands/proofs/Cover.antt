@@ -12,7 +12,7 @@ use lib.ListN.{length}
 use lib.Pow.{high_ones, shl-shr}
 use borrow.Author.Tests.{ltb-true, eqb-true}
 use Rattle.words.proofs.Bits.{and_assoc, and_or}
-use Rattle.words.specs.Words.{part, run}
+use Rattle.words.specs.Words.{part, run, word}
 use Rattle.table.specs.Table.{Field, fields_at, field_bits, own_bits}
 use Rattle.table.specs.Check.{fine, fields_check}
 use Rattle.table.proofs.Laws.{then_l, then_r, need_true, field_apart}
@@ -33,7 +33,7 @@ unfolding fields_check fields_at Covered field_bits
 covered ws e width size used zero p t = eqb-true _ _ (need_true _ _ _ t)
 covered ws e width size used (suc n) p t = (
   field_apart ws width size used p (then_l _ _ t),
-  covered ws e width size _ n (p + 1) (then_r _ _ t),
+  covered ws e width size (bit_or used (field_bits (word ws p))) n (p + 1) (then_r _ _ t),
 )
 
 -- ---- a field's value, by mask

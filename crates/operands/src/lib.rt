@@ -1,4 +1,6 @@
 // Decoding and encoding of operand fields.
+#![tactic(auto)]
+
 ghost use Rattle.std.specs.Prelude.{◌≡◌, [], ℕ, ◌+◌, ◌≤◌, ◌<◌, ◌^◌, length, get_or};
 ghost use Rattle.std.proofs.lemmas.List.Edits.{sets};
 ghost use Rattle.words.specs.Outcome.{cause_of};
@@ -7,7 +9,7 @@ ghost use Rattle.table.specs.Check.{read_table};
 ghost use Rattle.selection.specs.Lookup.{look_of};
 ghost use Rattle.operands.specs.Fields.{values_in};
 ghost use Rattle.operands.specs.Calls.{encode_of};
-ghost use Rattle.operands.specs.Answers.{Decodes, saidDecode, noRoomOf, InWord, makes, saidMaking, saidEncode, confirmed, madeFor};
+ghost use Rattle.operands.specs.Answers.{Decodes, said_decode, no_room_of, InWord, makes, said_making, said_encode, confirmed, made_for};
 
 use selection::Selected;
 use table::Answer;
@@ -46,7 +48,7 @@ pub enum Decoding {
 impl Decoding {
     // Number, place and word of what refuses.
     pub fn cause(self) -> Cause
-        ensures { result ≡ cause_of (saidDecode self []) }
+        ensures { result ≡ cause_of (said_decode self []) }
     {
         match self {
             Decoding::Entry(_, _) => Cause::of(0, 0, 0),
@@ -61,7 +63,7 @@ impl Decoding {
 
 // The answer where the buffer is under 8 words: the table's fault comes before the buffer's.
 fn no_room(ws: &[u32]) -> Decoding
-    ensures { saidDecode result [] ≡ noRoomOf (read_table ws.now) }
+    ensures { said_decode result [] ≡ no_room_of (read_table ws.now) }
 {
     let reading = table::read(ws);
     let answer = reading.answer;
@@ -104,7 +106,7 @@ enum Making {
 // Places each value in its field.
 fn put_in(ws: &[u32], p: usize, opcode: u32, values: &[u32]) -> Making
     requires { (p < 2 ^ 40) × (length values.now < 2 ^ 32) × InWord (fields_at ws.now (length values.now) p) }
-    ensures { saidMaking result ≡ makes 0 opcode (fields_at ws.now (length values.now) p) values.now }
+    ensures { said_making result ≡ makes 0 opcode (fields_at ws.now (length values.now) p) values.now }
 {
     let mut w = opcode;
     let mut k: usize = 0;
@@ -135,7 +137,7 @@ pub enum Encoding {
 impl Encoding {
     // Number, place and word of what refuses.
     pub fn cause(self) -> Cause
-        ensures { result ≡ cause_of (saidEncode self) }
+        ensures { result ≡ cause_of (said_encode self) }
     {
         match self {
             Encoding::Word(_) => Cause::of(0, 0, 0),
@@ -149,7 +151,7 @@ impl Encoding {
 
 // A word made for an entry, if it selects that entry.
 fn confirm(ws: &[u32], entry: u32, w: u32) -> Encoding
-    ensures { saidEncode result ≡ confirmed (look_of (read_table ws.now) w) entry w }
+    ensures { said_encode result ≡ confirmed (look_of (read_table ws.now) w) entry w }
 {
     match selection::lookup(ws, w) {
         Selected::Entry(e) => {
@@ -169,7 +171,7 @@ fn confirm(ws: &[u32], entry: u32, w: u32) -> Encoding
 // The word of an entry, whose head stands at p, with these values, as many as it has fields.
 fn make(ws: &[u32], entry: u32, p: u32, values: &[u32]) -> Encoding
     requires { (length values.now ≤ 8) × InWord (fields_at ws.now (length values.now) (fields_place ws.now p)) }
-    ensures { saidEncode result ≡ madeFor (read_table ws.now) entry (makes 0 (get_or ws.now (p + 2) 0) (fields_at ws.now (length values.now) (fields_place ws.now p)) values.now) }
+    ensures { said_encode result ≡ made_for (read_table ws.now) entry (makes 0 (get_or ws.now (p + 2) 0) (fields_at ws.now (length values.now) (fields_place ws.now p)) values.now) }
 {
     let opcode = words::word_at(ws, p as usize + 2);
     match put_in(ws, table::fields_at(ws, p), opcode, values) {
@@ -180,7 +182,7 @@ fn make(ws: &[u32], entry: u32, p: u32, values: &[u32]) -> Encoding
 
 // Encodes an entry with the values of its fields.
 pub fn encode(ws: &[u32], entry: u32, values: &[u32]) -> Encoding
-    ensures { saidEncode result ≡ encode_of (read_table ws.now) entry values.now }
+    ensures { said_encode result ≡ encode_of (read_table ws.now) entry values.now }
 {
     let reading = table::read(ws);
     let answer = reading.answer;

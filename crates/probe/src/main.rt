@@ -163,7 +163,7 @@ fn first_bytes(bytes: &[u8], n: usize) -> &[u8] {
     &bytes[0..end]
 }
 
-fn first_words(ws: &[u32], n: usize) -> &[u32] {
+fn first_words_lem(ws: &[u32], n: usize) -> &[u32] {
     let end = words::lesser(n, ws.len());
     &ws[0..end]
 }
@@ -585,7 +585,7 @@ fn main() {
     let mut room = zero_words();
     let mut byte_room = zero_bytes();
     let mut page = io::large_buffer();
-    let ws = first_words(&space, whole);
+    let ws = first_words_lem(&space, whole);
     let end = put_lines(&mut page, asked, ws, &mut room, &mut byte_room);
     flush(&page, end);
 }

@@ -6,7 +6,7 @@ ghost use Rattle.words.specs.Outcome.{cause_of};
 ghost use Rattle.words.specs.Tests.{any_of};
 ghost use Rattle.table.specs.Table.{pattern_at, conditions_at, entry_at};
 ghost use Rattle.table.specs.Check.{read_table};
-ghost use Rattle.choice.specs.Rule.{matches as matchesOf};
+ghost use Rattle.choice.specs.Rule.{matches as matches_of};
 ghost use Rattle.choice.specs.Status.{code_of, Stated};
 ghost use Rattle.choice.specs.Judged.{entry_placed};
 ghost use Rattle.selection.specs.Selection.{satisfied, claims as claims_of};
@@ -20,7 +20,7 @@ use words::Cause;
 // Whether a word matches the pattern at p.
 fn matches(ws: &[u32], p: usize, word: u32) -> bool
     requires { p < 2 ^ 63 }
-    ensures { result ≡ matchesOf word (pattern_at ws.now p) }
+    ensures { result ≡ matches_of word (pattern_at ws.now p) }
 {
     word & words::word_at(ws, p) == words::word_at(ws, p + 1)
 }

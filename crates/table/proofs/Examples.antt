@@ -94,11 +94,11 @@ abbrev refusals : List (List ℕ) → List (Outcome Table)
 refusals tables = map read_table tables
 
 -- number 1: empty; kind 2; a spare bit; 257 entries; width 0 and 33
-first_words :
+first_words_lem :
     refusals ([] ∷ (0x20000008 ∷ []) ∷ (0x10000108 ∷ []) ∷ (0x11010008 ∷ []) ∷ (0x10000000 ∷ []) ∷ (0x10000021 ∷ []) ∷ [])
     ≡ faulty 1 0 ∷ faulty 1 0 ∷ faulty 1 0 ∷ faulty 1 0 ∷ faulty 1 0 ∷ faulty 1 0 ∷ []
 unfolding opened
-first_words = refl
+first_words_lem = refl
 
 -- a table of no entries is good, and so is an empty mask
 bare : map shape_of (refusals ((0x10000020 ∷ []) ∷ (0x10010002 ∷ 0x20000210 ∷ 0 ∷ 0 ∷ 0x30000002 ∷ []) ∷ []))

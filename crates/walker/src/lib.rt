@@ -5,7 +5,7 @@ ghost use Rattle.std.specs.Prelude.{◌≡◌, ℕ, ◌≤◌, ◌<◌};
 ghost use Rattle.words.specs.Bytes.{words_of};
 ghost use Rattle.words.specs.Outcome.{cause_of};
 ghost use Rattle.flat.specs.Nodes.{header_of, node_of};
-ghost use Rattle.flat.specs.Walk.{path as pathOf, ended, walk_of, mask_or_zero};
+ghost use Rattle.flat.specs.Walk.{path as path_of, ended, walk_of, mask_or_zero};
 ghost use Rattle.walker.specs.Walked.{said, Small, walk_bytes, entered_of, entered_bytes, EnteredBounds, went_of, WentBounds};
 
 use flat::{Header, Node};
@@ -110,7 +110,7 @@ fn pass(x: u32, at: u32, width: u32, nodes: u32, word: u32) -> Went
 // The path of a word from index 1, in words.
 fn path(tree: &[u32], width: u32, nodes: u32, word: u32) -> Walked
     requires { (1 ≤ nodes) × (nodes < 65536) }
-    ensures result_value { said result ≡ ended (pathOf nodes tree.now width nodes word 1) }
+    ensures result_value { said result ≡ ended (path_of nodes tree.now width nodes word 1) }
     ensures small { Small result }
 {
     let mut at: u32 = 1;
@@ -134,7 +134,7 @@ fn path(tree: &[u32], width: u32, nodes: u32, word: u32) -> Walked
 // The same in bytes.
 fn path_bytes(tree: &[u8], width: u32, nodes: u32, word: u32) -> Walked
     requires { (1 ≤ nodes) × (nodes < 65536) }
-    ensures result_value { said result ≡ ended (pathOf nodes (words_of tree.now) width nodes word 1) }
+    ensures result_value { said result ≡ ended (path_of nodes (words_of tree.now) width nodes word 1) }
     ensures small { Small result }
 {
     let mut at: u32 = 1;

@@ -1,4 +1,6 @@
 // How far a withdrawn entry reaches: how many words of a list change their answer.
+#![tactic(auto)]
+
 ghost use Rattle.std.specs.Prelude.{◌≡◌, ◌<◌};
 ghost use Rattle.words.specs.Outcome.{cause_of};
 ghost use Rattle.table.specs.Check.{read_table};

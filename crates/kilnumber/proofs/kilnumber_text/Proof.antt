@@ -1,7 +1,7 @@
 use mathlib.Core.Path.{◌≡◌, ap, ◌∙◌}
 use lib.ListN.{length}
 use Rattle.numbers.specs.Calls.{text_of, length_of}
-use Rattle.numbers.specs.Answers.{saidText}
+use Rattle.numbers.specs.Answers.{said_text}
 use Rattle.kilnumber.specs.Packed.{packed_number}
 use borrow.Author.Rules.{rules}
 use Rattle.kilnumber.proofs.kilnumber_text.Statement.{statement}
@@ -20,7 +20,7 @@ returns : tie.Need-returns
 returns c =
     let a = c.before.before.before.before.before.before.args in
     let t = c.before.before.before.put-text in
-    let said : saidText t.result ≡ length_of (text_of a.field a.value) (length a.out.now) = t.ensures.answer in
+    let said : said_text t.result ≡ length_of (text_of a.field a.value) (length a.out.now) = t.ensures.answer in
     record { answer = c.pack-length.ensures ∙ ap packed_number said; buffer = t.ensures.buffer }
 
 pub kilnumber-text-spec : {M : Type 1} → statement M
