@@ -18,7 +18,7 @@ enum Ended {
 }
 
 // What the checker answers: yes; no (14); or the number and place of the table's first fault (1 to 4).
-#[derive(Drop)]
+#[derive(Clone, Copy)]
 pub enum Checked {
     Yes,
     No,

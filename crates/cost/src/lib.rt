@@ -10,7 +10,7 @@ use table::Answer;
 use words::Cause;
 
 // What is answered: an entry's cycles; or why not: no such entry (11), or the number and place of the table's first fault (1 to 4).
-#[derive(Drop)]
+#[derive(Clone, Copy)]
 pub enum Costed {
     Cycles(u32),
     NoEntry,

@@ -1,6 +1,8 @@
 // The lister: an image of halfwords, item by item, by a table and a tree that the checker accepts for it.
+#![tactic(auto)]
+
 ghost use Rattle.std.specs.Prelude.{◌≡◌, ◌≤◌, ◌^◌};
-ghost use Rattle.words.specs.Outcome.{cause_of, result};
+ghost use Rattle.words.specs.Outcome.{cause_of, result as answered};
 ghost use Rattle.table.specs.Table.{table_of};
 ghost use Rattle.table.specs.Check.{read_table};
 ghost use Rattle.image.specs.Address.{offset_of, halfwords as halfwords_of};
@@ -13,11 +15,11 @@ mod lister;
 mod refusals;
 
 // Counts 16-bit words of the image.
-#[derive(Drop)]
+#[derive(Clone, Copy)]
 pub struct HalfwordAddress(pub u32);
 
 // Counts bytes of the image.
-#[derive(Drop)]
+#[derive(Clone, Copy)]
 pub struct ByteOffset(pub u64);
 
 // The one conversion.
@@ -70,7 +72,7 @@ struct Admission {
 
 // What a whole listing answers: the number of items; or why not: more items than the buffer takes, with the address of the first left
 // out (17), the table (15), the image (16), the tree (14), or the number and place of the table's first fault (1 to 4).
-#[derive(Drop)]
+#[derive(Clone, Copy)]
 pub enum Listed {
     Items(u32),
     Full(HalfwordAddress),
@@ -114,7 +116,7 @@ pub fn list(table: &[u32], tree: &[u32], image: &[u8], out: &mut [u32]) -> Liste
 
 // What a step answers: the item's word, the address after it and the item's mask, or the end; or why not, as a listing does but
 // for 17.
-#[derive(Drop)]
+#[derive(Clone, Copy)]
 pub enum Stepped {
     Item(u32, HalfwordAddress, u32),
     End,
@@ -149,7 +151,7 @@ fn step_ready(
     at: HalfwordAddress,
 ) -> Stepped
     requires { Admitted table.now places.now tree.now image.now }
-    ensures { said_step result ≡ step_from (result (table_of table.now).entries) tree.now image.now at }
+    ensures { said_step result ≡ step_from (answered (table_of table.now).entries) tree.now image.now at }
 {
     let end = halfwords(image);
     if end <= at.0 {

@@ -40,7 +40,7 @@ enum Judged {
 
 // What generating answers: the number of words of the tree; or why not: it does not fit (5), an ambiguous word (6), the lowest entry
 // that no word selects (19), or the number and place of the table's first fault (1 to 4).
-#[derive(Drop)]
+#[derive(Clone, Copy)]
 pub enum Generated {
     Words(u32),
     NoFit,
@@ -81,7 +81,7 @@ pub fn generate(table: &[u32], out: &mut [u32]) -> Generated
 
 // What sizing answers: the number of nodes and the greatest number of tests on a path; or why not: over the tree limit (5), an
 // ambiguous word (6), the lowest entry that no word selects (19), or the number and place of the table's first fault (1 to 4).
-#[derive(Drop)]
+#[derive(Clone, Copy)]
 pub enum Measured {
     Tree(u32, u32),
     NoFit,

@@ -110,7 +110,7 @@ fn side_in(sign: bool, width: u32, value: u32) -> Side
 }
 
 // What `signed` answers: the whole number; or why not: a value out of range (12), or the number of the word's fault (2 or 4).
-#[derive(Drop)]
+#[derive(Clone, Copy)]
 pub enum SignedNumber {
     Number(i64),
     OutOfRange,
@@ -151,7 +151,7 @@ pub fn signed(field: u32, value: u32) -> SignedNumber
 }
 
 // What `stored` answers: the value; or why not: a number out of range (12), or the number of the word's fault (2 or 4).
-#[derive(Drop)]
+#[derive(Clone, Copy)]
 pub enum StoredValue {
     Value(u32),
     OutOfRange,
@@ -270,7 +270,7 @@ fn put_fraction(line: &mut [u8], at: usize, rest: u32, fraction: u32) -> usize
 
 // What `put_text` answers: the length of the text, which is at the start of the buffer; or why not: a buffer that is too short (18), a value
 // out of range (12), or the number of the word's fault (2 or 4).
-#[derive(Drop)]
+#[derive(Clone, Copy)]
 pub enum TextLength {
     Length(u32),
     NoRoom,

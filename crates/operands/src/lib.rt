@@ -35,7 +35,7 @@ fn take_out(ws: &[u32], p: usize, n: u32, word: u32, out: &mut [u32])
 // What decoding answers: the entry and the number of its fields, whose values are in the first words of the buffer, or nothing;
 // or why not: ambiguous, with the word (6), a bit at or above the width (7), a buffer under 8 words (10),
 // or the number and place of the table's first fault (1 to 4).
-#[derive(Drop)]
+#[derive(Clone, Copy)]
 pub enum Decoding {
     Entry(u32, u32),
     Nothing,
@@ -125,7 +125,7 @@ fn put_in(ws: &[u32], p: usize, opcode: u32, values: &[u32]) -> Making
 
 // What encoding answers: the word; or why not: the word made does not select the entry (13, with the word), a value does not fit its
 // field (12, with its index), no such entry or a wrong count of values (11), or the number and place of the table's first fault (1 to 4).
-#[derive(Drop)]
+#[derive(Clone, Copy)]
 pub enum Encoding {
     Word(u32),
     NotSelected(u32),

@@ -102,7 +102,7 @@ fn statuses(ws: &[u32], places: &[u32; 256], n: usize, word: u32) -> [u8; 256]
 
 // What a word selects: an entry or nothing; or why not: ambiguous, with the word (6), a bit at or above the width (7),
 // or the number and place of the table's first fault (1 to 4).
-#[derive(Drop)]
+#[derive(Clone, Copy)]
 pub enum Selected {
     Entry(u32),
     Nothing,

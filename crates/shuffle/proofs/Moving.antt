@@ -103,7 +103,7 @@ module _ (to : ℕ → ℕ) where
     unfolding moved_tree nodes Sound size test_word
     nodes_moved (leaf a) i s h = ap (λ (x : ℕ). x ∷ []) (leaf_moved a s)
     nodes_moved (test b l r) i s h =
-        rw (size_moved l, map-append)
+        rw (size_moved l, map-append (moved_word to))
         (ap₂ ◌∷◌ (sym (stays _ (not_nine _ 8 (omega (arith, s.0)) (omega arith))))
         (ap₂ ◌++◌ (nodes_moved l (i + 1) s.1 (omega arith)) (nodes_moved r (i + 1 + size l) s.2 (omega arith))))
 

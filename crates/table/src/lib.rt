@@ -429,7 +429,7 @@ fn first_word(ws: &[u32]) -> Step
 }
 
 // What reading a table answers: its width and its number of entries, or the number and the place of its first fault.
-#[derive(Drop)]
+#[derive(Clone, Copy)]
 pub enum Answer {
     Accepted { width: u32, count: u32 },
     Refused { number: u32, place: u32 },

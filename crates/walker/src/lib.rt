@@ -13,7 +13,7 @@ use words::Cause;
 
 // What a walk answers: an entry, or nothing, with the number of tests on the path and the mask of the bits tested; or why not, by number
 // and place: a bad header or length (8), a word with a bit at or above the width (7), a damaged node on the path (9, its index).
-#[derive(Drop)]
+#[derive(Clone, Copy)]
 pub enum Walked {
     Entry(u32, u32, u32),
     Nothing(u32, u32),

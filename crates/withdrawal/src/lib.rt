@@ -13,7 +13,7 @@ use words::Cause;
 
 // What is answered: how many words change; or why not: no such entry (11), a word that has a bit at or above the width (7) or is
 // ambiguous as the table stands, with the word (6), or the number and place of the table's first fault (1 to 4).
-#[derive(Drop)]
+#[derive(Clone, Copy)]
 pub enum Changed {
     Words(usize),
     NoEntry,
