@@ -2,7 +2,7 @@
  * Walks each item of a firmware image through a cache of walks (cache.h) and without it, and says how often the cache was hit.
  *
  *   target/bin/mktree < data/avr.table | python3 examples/tree_file.py target/avr.tree
- *   rt staticlib kilnumber
+ *   tools/build kilnumber
  *   gcc -std=c11 -O2 -Iinclude examples/cache.c target/staticlib/libkilnumber.a -o target/cache
  *   target/cache data/avr.table target/avr.tree examples/avr.image
  *

@@ -2,7 +2,7 @@
  * Lists a firmware image of instructions of 16 and 32 bits: where each begins, its halfwords, and its entry in the table.
  *
  *   target/bin/mktree < data/avr.table | python3 examples/tree_file.py target/avr.tree
- *   rt staticlib kilnumber
+ *   tools/build kilnumber
  *   gcc -std=c11 -O2 -Iinclude examples/lister.c target/staticlib/libkilnumber.a -o target/lister
  *   target/lister data/avr.table target/avr.tree examples/avr.image
  *

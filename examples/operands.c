@@ -1,7 +1,7 @@
 /*
  * Prints the operands of an instruction, each as its field means it: plain, with a sign, or with a point.
  *
- *   rt staticlib kilnumber
+ *   tools/build kilnumber
  *   gcc -std=c11 -O2 -Iinclude examples/operands.c target/staticlib/libkilnumber.a -o target/operands
  *   target/operands data/buoy.table 23 e412f800
  *

@@ -2,7 +2,7 @@
  * A simulator's account of a firmware image: which instruction each word is, and what current it draws.
  *
  *   target/bin/mktree < examples/worked.table | python3 examples/tree_file.py target/worked.tree
- *   rt staticlib kilnumber
+ *   tools/build kilnumber
  *   gcc -std=c11 -O2 -Iinclude examples/simulator.c target/staticlib/libkilnumber.a -o target/account
  *   target/account examples/worked.table target/worked.tree examples/worked.currents examples/worked.image
  *

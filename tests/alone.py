@@ -13,7 +13,7 @@ from pathlib import Path
 
 ROOT = Path(__file__).resolve().parent.parent
 THIS = Path(__file__).resolve()
-LEFT_OUT = {".git", "target", "__pycache__"}
+LEFT_OUT = {".git", "target", "out", "__pycache__"}
 
 WORDS = [
     (r"\bissues?\b", "as issue 7 asks"),
@@ -26,7 +26,7 @@ WORDS = [
 ]
 
 # Folders of the repository. In a page, `folder/..` must be there; * and ** stand for any name.
-FOLDERS = "bench|crates|data|docs|examples|include|tests|\\.ci"
+FOLDERS = "bench|crates|data|docs|examples|include|tests|tools|\\.ci"
 
 
 def files():

@@ -98,7 +98,8 @@ def crates():
     """What each crate depends on, by crates.txt."""
     lines = (ROOT / "crates.txt").read_text(encoding="utf-8").split("\n")
     pairs = [line.split(":") for line in lines if line and not line.startswith("#")]
-    return {name: set(rest.split()) for name, rest in pairs}
+    # a name may have words after it, as a static library has
+    return {said.split()[0]: set(rest.split()) for said, rest in pairs}
 
 
 def called(crate, names):

@@ -12,7 +12,7 @@ cd "$(dirname "$0")/.."
 out=target/examples
 library=target/staticlib/libkilnumber.a
 mkdir -p "$out"
-[ -f "$library" ] || rt staticlib kilnumber > "$out/staticlib.log" 2>&1 || { cat "$out/staticlib.log"; exit 1; }
+[ -f "$library" ] || tools/build kilnumber
 
 build() { # source, program
     gcc -std=c11 -O1 -Wall -Wextra -Werror -fsanitize=address,undefined -Iinclude "$1" "$library" -o "$2"

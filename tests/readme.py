@@ -1,7 +1,6 @@
 """Runs the lines of README.md, in order, and compares what they print with what the page shows below them.
 
-Of a line that begins with rt only the status is looked at: what rt prints has times in it. The lines run in the repository itself, as a
-newcomer's do, so they build what they say; after the gate's proofs that is done already.
+The lines run in the repository itself, as a newcomer's do, so they build what they say; in tests/run that is done already.
 
 Usage: readme.py. Exits with status 1 at the first difference.
 """
@@ -18,10 +17,9 @@ LEAST = 8
 def run(command):
     """What a line prints; its status must be 0."""
     done = subprocess.run(["bash", "-c", "set -o pipefail\n" + command.text], stdin=subprocess.DEVNULL, cwd=ROOT, capture_output=True, text=True)
-    own = command.text.startswith("rt ")
-    if done.returncode != 0 or done.stderr and not own:
+    if done.returncode != 0 or done.stderr:
         sys.exit(f"README.md:{command.line}: {command.text}\nstatus {done.returncode}\n{done.stdout[-2000:]}{done.stderr[-2000:]}")
-    return [] if own else done.stdout.split("\n")[:-1]
+    return done.stdout.split("\n")[:-1]
 
 
 def main():

@@ -160,9 +160,9 @@ def unnamed(page):
 
 # ---------------------------------------------------------------------------- the whole
 
-WRONG = [("Definition", "`table/Check.readTabel`"), ("Definition", "`table/Chekc.readTable`"), ("Definition", "`readTable`"), ("Definition", ""),
-         ("Definition", "`table/Check.readTable`, `.nothing`"), ("Code", "`tree::make_tree`"), ("Code", "`tree::maker::nothing`"),
-         ("Code", "`table::read`, `::nothing`"), ("Proved", "`tree/Demand.walk-rigth`"), ("Edits", "`tree/lone_open_leaf`"),
+WRONG = [("Definition", "`table/Check.read_tabel`"), ("Definition", "`table/Chekc.read_table`"), ("Definition", "`read_table`"), ("Definition", ""),
+         ("Definition", "`table/Check.read_table`, `.nothing`"), ("Code", "`tree::make_tree`"), ("Code", "`tree::maker::nothing`"),
+         ("Code", "`table::read`, `::nothing`"), ("Proved", "`tree/Demand.walk_rigth`"), ("Edits", "`tree/lone_open_leaf`"),
          ("Edits", "`table/three_at_the_value`, `nothing`"), ("Tests", "`compare_nothing.py`")]
 
 

@@ -124,7 +124,7 @@ def main(argv):
                 f.write(out)
     for path in files((".rt",)):
         text = read(path)
-        out = turned(text, {a: b for a, b in new.items() if "-" not in a})
+        out = turned(text, {a: b for a, b in new.items() if re.search("[A-Z]", a)})
         if out != text:
             with open(path, "w", encoding="utf-8") as f:
                 f.write(out)

@@ -7,6 +7,8 @@ use crate::says::{say, say_number, say_refusal};
 use crate::{TREE_ROOM, others, tables, words_in};
 use image::{HalfwordAddress, Listed, Stepped};
 use maker::Generated;
+use std::io;
+use std::io::Write;
 
 // "if two consecutive bytes 84 and 92 appear .. if four consecutive bytes a9, cd, 0f, 00".
 const BYTES: [u8; 6] = [0x84, 0x92, 0xa9, 0xcd, 0x0f, 0x00];
@@ -100,33 +102,33 @@ fn is_listing(items: &[u32]) -> bool {
 }
 
 // The number of items, and whether they are the listing.
-fn say_items(items: &[u32; 4], count: u32) {
-    say_number(count);
+fn say_items(output: &mut impl Write, items: &[u32; 4], count: u32) -> io::Result<()> {
+    say_number(output, count)?;
     if is_listing(words_in(items, count)) {
-        say(b" items, same");
+        say(output, b" items, same")
     } else {
-        say(b" items, differ");
+        say(output, b" items, differ")
     }
 }
 
 // Whether all steps agree, or the first that does not.
-fn say_steps(tree: &[u32]) {
+fn say_steps(output: &mut impl Write, tree: &[u32]) -> io::Result<()> {
     let n = stepped(tree);
-    say_number(n);
+    say_number(output, n)?;
     if n <= HALVES {
-        say(b" steps, differs, ");
+        say(output, b" steps, differs, ")
     } else {
-        say(b" steps, same, ");
+        say(output, b" steps, same, ")
     }
 }
 
 // The listing of the bytes by a tree.
-fn say_list(tree: &[u32]) {
+fn say_list(output: &mut impl Write, tree: &[u32]) -> io::Result<()> {
     let mut items = [0u32; 4];
     let answer = image::list(&tables::PACKED, tree, &BYTES, &mut items);
     match answer {
-        Listed::Items(count) => say_items(&items, count),
-        _ => say_refusal(answer.cause()),
+        Listed::Items(count) => say_items(output, &items, count),
+        _ => say_refusal(output, answer.cause()),
     }
 }
 
@@ -140,12 +142,12 @@ fn generated(room: &mut [u32]) -> u32 {
 }
 
 // The line of the bytes.
-pub fn report_bytes() {
+pub fn report_bytes(output: &mut impl Write) -> io::Result<()> {
     let mut room = [0u32; TREE_ROOM];
     let count = generated(&mut room);
     let tree = words_in(&room, count);
-    say(b"004 bytes: ");
-    say_steps(tree);
-    say_list(tree);
-    say(b"\n");
+    say(output, b"004 bytes: ")?;
+    say_steps(output, tree)?;
+    say_list(output, tree)?;
+    say(output, b"\n")
 }

@@ -1,6 +1,8 @@
 // Compares the libraries with another decoder, on every table of document 01's examples and of the
 // public papers, and runs the examples. The output is fixed in `stdout`, so that a difference fails
-// the check.
+// the check. A write that fails ends the program with its error.
+#![tactic(auto)]
+
 ghost use Rattle.std.specs.Prelude.{◌≤◌, length};
 
 use checker::Checked;
@@ -9,6 +11,8 @@ use operands::{Decoding, Encoding};
 use others::Source;
 use says::{say, say_number, say_refusal, say_word};
 use selection::Selected;
+use std::io;
+use std::io::Write;
 use walker::Walked;
 
 mod images;
@@ -163,35 +167,55 @@ fn count_between(source: Source, table: &[u32], from: u32, below: u32, count: u3
 }
 
 // How many words there are, and how many select an entry, nothing, or are ambiguous.
-fn say_counts(source: Source, table: &[u32], count: u32) {
-    say_number(count);
-    say(b" words, ");
-    say_number(count_between(source, table, 0, others::NOTHING, count));
-    say(b" entries, ");
-    say_number(count_between(source, table, others::NOTHING, others::AMBIGUOUS, count));
-    say(b" nothing, ");
-    say_number(count_between(source, table, others::AMBIGUOUS, FAULT, count));
-    say(b" ambiguous, ");
+fn say_counts(
+    output: &mut impl Write,
+    source: Source,
+    table: &[u32],
+    count: u32,
+) -> io::Result<()> {
+    say_number(output, count)?;
+    say(output, b" words, ")?;
+    say_number(
+        output,
+        count_between(source, table, 0, others::NOTHING, count),
+    )?;
+    say(output, b" entries, ")?;
+    say_number(
+        output,
+        count_between(source, table, others::NOTHING, others::AMBIGUOUS, count),
+    )?;
+    say(output, b" nothing, ")?;
+    say_number(
+        output,
+        count_between(source, table, others::AMBIGUOUS, FAULT, count),
+    )?;
+    say(output, b" ambiguous, ")
 }
 
 // Whether all words agree, or the first that does not.
-fn say_agreed(source: Source, table: &[u32], tree: &[u32], count: u32) {
+fn say_agreed(
+    output: &mut impl Write,
+    source: Source,
+    table: &[u32],
+    tree: &[u32],
+    count: u32,
+) -> io::Result<()> {
     let n = agreed(source, table, tree, count);
     if n < count {
-        say(b", differs at ");
-        say_word(others::word_at(source, n));
+        say(output, b", differs at ")?;
+        say_word(output, others::word_at(source, n))
     } else {
-        say(b", same");
+        say(output, b", same")
     }
 }
 
 // What the checker says of a tree.
-fn say_check(table: &[u32], tree: &[u32]) {
+fn say_check(output: &mut impl Write, table: &[u32], tree: &[u32]) -> io::Result<()> {
     let answer = checker::check(table, tree);
     match answer {
-        Checked::Yes => say(b" nodes, checked"),
-        Checked::No => say(b" nodes, not checked"),
-        _ => say_refusal(answer.cause()),
+        Checked::Yes => say(output, b" nodes, checked"),
+        Checked::No => say(output, b" nodes, not checked"),
+        _ => say_refusal(output, answer.cause()),
     }
 }
 
@@ -204,103 +228,178 @@ fn nodes(tree: &[u32]) -> u32 {
 }
 
 // Generates a table's tree, has it checked, and compares every word.
-fn compare(source: Source, table: &[u32], count: u32) {
+fn compare(output: &mut impl Write, source: Source, table: &[u32], count: u32) -> io::Result<()> {
     let mut room = [0u32; TREE_ROOM];
     let answer = maker::generate(table, &mut room);
     match answer {
         Generated::Words(n) => {
             let tree = words_in(&room, n);
-            say_number(nodes(tree));
-            say_check(table, tree);
-            say_agreed(source, table, tree, count);
+            say_number(output, nodes(tree))?;
+            say_check(output, table, tree)?;
+            say_agreed(output, source, table, tree, count)
         }
         Generated::Ambiguous(_) => {
-            say_refusal(answer.cause());
-            say_agreed(source, table, words_in(&room, 0), count);
+            say_refusal(output, answer.cause())?;
+            say_agreed(output, source, table, words_in(&room, 0), count)
         }
-        _ => say_refusal(answer.cause()),
+        _ => say_refusal(output, answer.cause()),
     }
 }
 
 // The line of a table.
-fn report(name: &[u8], source: Source, table: &[u32], count: u32) {
-    say(name);
-    say(b": ");
-    say_counts(source, table, count);
-    compare(source, table, count);
-    say(b"\n");
+fn report(
+    output: &mut impl Write,
+    name: &[u8],
+    source: Source,
+    table: &[u32],
+    count: u32,
+) -> io::Result<()> {
+    say(output, name)?;
+    say(output, b": ")?;
+    say_counts(output, source, table, count)?;
+    compare(output, source, table, count)?;
+    say(output, b"\n")
 }
 
 // The lines of document 01's tables.
-fn report_01() {
-    report(b"01 printed", Source::Printed, &tables::PRINTED, 4);
-    report(b"01 0-- --0", Source::TwoZeros, &tables::TWO_ZEROS, 8);
-    report(b"01 0-- --0 0-0", Source::WithThird, &tables::WITH_THIRD, 8);
-    report(b"01 0-- -00", Source::MoreBits, &tables::MORE_BITS, 8);
+fn report_01(output: &mut impl Write) -> io::Result<()> {
+    report(output, b"01 printed", Source::Printed, &tables::PRINTED, 4)?;
+    report(
+        output,
+        b"01 0-- --0",
+        Source::TwoZeros,
+        &tables::TWO_ZEROS,
+        8,
+    )?;
+    report(
+        output,
+        b"01 0-- --0 0-0",
+        Source::WithThird,
+        &tables::WITH_THIRD,
+        8,
+    )?;
+    report(
+        output,
+        b"01 0-- -00",
+        Source::MoreBits,
+        &tables::MORE_BITS,
+        8,
+    )
 }
 
 // The lines of 000's tables, up to section 2 and in section 3.1.
-fn report_000() {
-    report(b"000 figure 1", Source::Figure1, &tables::FIGURE_1, 16);
-    report(b"000 (1)", Source::Example1, &tables::EXAMPLE_1, 8);
-    report(b"000 (4)", Source::Example4, &tables::EXAMPLE_4, 16);
-    report(b"000 (5)", Source::Example5, &tables::EXAMPLE_5, 8);
+fn report_000(output: &mut impl Write) -> io::Result<()> {
+    report(
+        output,
+        b"000 figure 1",
+        Source::Figure1,
+        &tables::FIGURE_1,
+        16,
+    )?;
+    report(output, b"000 (1)", Source::Example1, &tables::EXAMPLE_1, 8)?;
+    report(output, b"000 (4)", Source::Example4, &tables::EXAMPLE_4, 16)?;
+    report(output, b"000 (5)", Source::Example5, &tables::EXAMPLE_5, 8)
 }
 
-fn report_000_defaults() {
-    report(b"000 3.1", Source::Default, &tables::DEFAULT, 4);
-    report(b"000 (6)", Source::Example6, &tables::EXAMPLE_6, 16);
-    report(b"000 (7)", Source::Example7, &tables::EXAMPLE_7, 16);
+fn report_000_defaults(output: &mut impl Write) -> io::Result<()> {
+    report(output, b"000 3.1", Source::Default, &tables::DEFAULT, 4)?;
+    report(output, b"000 (6)", Source::Example6, &tables::EXAMPLE_6, 16)?;
+    report(output, b"000 (7)", Source::Example7, &tables::EXAMPLE_7, 16)
 }
 
 // The lines of 001's tables.
-fn report_001() {
-    report(b"001 table I", Source::Table1, &tables::TABLE_1, 256);
-    report(b"001 table II", Source::Table2, &tables::TABLE_2, 256);
-    report(b"001 IV-A", Source::Significant, &tables::SIGNIFICANT, 16);
+fn report_001(output: &mut impl Write) -> io::Result<()> {
+    report(
+        output,
+        b"001 table I",
+        Source::Table1,
+        &tables::TABLE_1,
+        256,
+    )?;
+    report(
+        output,
+        b"001 table II",
+        Source::Table2,
+        &tables::TABLE_2,
+        256,
+    )?;
+    report(
+        output,
+        b"001 IV-A",
+        Source::Significant,
+        &tables::SIGNIFICANT,
+        16,
+    )
 }
 
 // The lines of 002's tables.
-fn report_002() {
-    report(b"002 figure 3", Source::Bld, &tables::BLD, 65536);
+fn report_002(output: &mut impl Write) -> io::Result<()> {
+    report(output, b"002 figure 3", Source::Bld, &tables::BLD, 65536)?;
     report(
+        output,
         b"002 figure 4 before",
         Source::AddBefore,
         &tables::ADD_BEFORE,
         65536,
-    );
+    )?;
     report(
+        output,
         b"002 figure 4 after",
         Source::AddAfter,
         &tables::ADD_AFTER,
         65536,
-    );
+    )
 }
 
 // The lines of 003's tables.
-fn report_003() {
-    report(b"003 figure 1 (a)", Source::Disjoint, &tables::DISJOINT, 32);
-    report(b"003 figure 1 (b)", Source::Overlap, &tables::OVERLAP, 32);
+fn report_003(output: &mut impl Write) -> io::Result<()> {
+    report(
+        output,
+        b"003 figure 1 (a)",
+        Source::Disjoint,
+        &tables::DISJOINT,
+        32,
+    )?;
+    report(
+        output,
+        b"003 figure 1 (b)",
+        Source::Overlap,
+        &tables::OVERLAP,
+        32,
+    )
 }
 
 // The lines of 004's tables, and of its bytes.
-fn report_004() {
-    report(b"004 table 2", Source::Mixed, &tables::MIXED, 196608);
-    report(b"004 byte order", Source::Packed, &tables::PACKED, 131072);
-    images::report_bytes();
+fn report_004(output: &mut impl Write) -> io::Result<()> {
+    report(
+        output,
+        b"004 table 2",
+        Source::Mixed,
+        &tables::MIXED,
+        196608,
+    )?;
+    report(
+        output,
+        b"004 byte order",
+        Source::Packed,
+        &tables::PACKED,
+        131072,
+    )?;
+    images::report_bytes(output)
 }
 
-fn main() {
-    runs::run_worked();
-    runs::run_fit();
-    runs::run_third();
-    runs::run_many();
-    runs::run_printed();
-    report_01();
-    report_000();
-    report_000_defaults();
-    report_001();
-    report_002();
-    report_003();
-    report_004();
+fn main(rt: HostRuntime) -> io::Result<()> {
+    let output = &mut rt.stdout();
+    runs::run_worked(output)?;
+    runs::run_fit(output)?;
+    runs::run_third(output)?;
+    runs::run_many(output)?;
+    runs::run_printed(output)?;
+    report_01(output)?;
+    report_000(output)?;
+    report_000_defaults(output)?;
+    report_001(output)?;
+    report_002(output)?;
+    report_003(output)?;
+    report_004(output)
 }

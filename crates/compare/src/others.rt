@@ -6,7 +6,7 @@ pub const NOTHING: u32 = 256;
 pub const AMBIGUOUS: u32 = 257;
 
 // Where a table stands.
-#[derive(Drop)]
+#[derive(Clone, Copy)]
 pub enum Source {
     Printed,
     TwoZeros,

@@ -15,7 +15,7 @@ fn asked(node: u32) -> u32 {
 
 // What the path passes over after a test: nothing if the bit is 0, since the zero side is next;
 // else all before the one side.
-fn one_side_lem(node: u32, w: u32) -> usize {
+fn one_side(node: u32, w: u32) -> usize {
     if w & asked(node) == 0 {
         0
     } else {
@@ -39,7 +39,7 @@ pub fn tests(tree: &[u32], w: u32) -> Seen {
             }
             count += 1;
             mask |= asked(node);
-            from = one_side_lem(node, w);
+            from = one_side(node, w);
         }
     }
     Seen { count, mask }

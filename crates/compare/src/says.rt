@@ -1,26 +1,27 @@
-// What is printed, on standard output.
-use libc::STDOUT_FILENO;
+// What is printed, on the output that is lent.
+use std::io;
+use std::io::Write;
 use words::Cause;
 
-// Where nothing can be written there is nobody to tell.
-pub fn say(text: &[u8]) {
-    io::write_all(STDOUT_FILENO, text);
+// Where that fails, the program ends with the error.
+pub fn say(output: &mut impl Write, text: &[u8]) -> io::Result<()> {
+    streams::write(output, text)
 }
 
-pub fn say_number(n: u32) {
-    io::print_decimal(STDOUT_FILENO, n as u64);
+pub fn say_number(output: &mut impl Write, n: u32) -> io::Result<()> {
+    streams::write_decimal(output, n as u64)
 }
 
-pub fn say_word(w: u32) {
-    io::print_hex(STDOUT_FILENO, w as u64, 8);
+pub fn say_word(output: &mut impl Write, w: u32) -> io::Result<()> {
+    streams::write_word(output, w)
 }
 
 // A refusal, as mktree prints it.
-pub fn say_refusal(cause: Cause) {
-    say(b"refused ");
-    say_number(cause.number);
-    say(b" ");
-    say_number(cause.place);
-    say(b" ");
-    say_word(cause.word);
+pub fn say_refusal(output: &mut impl Write, cause: Cause) -> io::Result<()> {
+    say(output, b"refused ")?;
+    say_number(output, cause.number)?;
+    say(output, b" ")?;
+    say_number(output, cause.place)?;
+    say(output, b" ")?;
+    say_word(output, cause.word)
 }

@@ -1,6 +1,8 @@
-// The C face: a walk of a tree that is given as bytes, the size of a table's tree, the check of a tree against its table, the listing
-// of an image, the cycles of an entry, how far its withdrawal reaches, and the numbers and texts of operands; each answer in 64 bits.
-// include/kilnumber.h is its header.
+// What the C face calls: a walk of a tree that is given as bytes, the size of a table's tree, the check of a tree against its table, the
+// listing of an image, the cycles of an entry, how far its withdrawal reaches, and the numbers and texts of operands; each answer in 64
+// bits. The crate kilnumber_c exports each function under its name; include/kilnumber.h is its header.
+#![tactic(auto)]
+
 ghost use Rattle.std.specs.Prelude.{◌≡◌, ℕ, ◌<◌, ◌^◌};
 ghost use Rattle.flat.specs.Walk.{mask_or_zero};
 ghost use Rattle.walker.specs.Walked.{said, Small, walk_bytes};
@@ -39,8 +41,7 @@ fn pack(answer: Walked) -> u64
 }
 
 // What the simulator calls: uint64_t kilnumber_walk(const uint8_t *tree, size_t tree_bytes, uint32_t word).
-#[unsafe(no_mangle)]
-pub extern "C" fn kilnumber_walk(tree: &[u8], word: u32) -> u64
+pub fn kilnumber_walk(tree: &[u8], word: u32) -> u64
     ensures { result ≡ packed (walk_bytes tree.now word) }
 {
     let answer = walker::walk_bytes(tree, word);
@@ -48,8 +49,7 @@ pub extern "C" fn kilnumber_walk(tree: &[u8], word: u32) -> u64
 }
 
 // What a cache of decoded words calls: uint32_t kilnumber_mask(const uint8_t *tree, size_t tree_bytes, uint32_t word).
-#[unsafe(no_mangle)]
-pub extern "C" fn kilnumber_mask(tree: &[u8], word: u32) -> u32
+pub fn kilnumber_mask(tree: &[u8], word: u32) -> u32
     ensures { result ≡ mask_or_zero (walk_bytes tree.now word) }
 {
     walker::mask_bytes(tree, word)
@@ -70,8 +70,7 @@ fn pack_items(answer: Listed) -> u64
 }
 
 // What lists an image for C: each slice is a pointer and a length there, in words for the table, the tree and the buffer.
-#[unsafe(no_mangle)]
-pub extern "C" fn kilnumber_list(table: &[u32], tree: &[u32], image: &[u8], out: &mut [u32]) -> u64
+pub fn kilnumber_list(table: &[u32], tree: &[u32], image: &[u8], out: &mut [u32]) -> u64
     ensures { ListsPacked table.now tree.now image.now out.old out.new result }
 {
     let answer = image::list(table, tree, image, out);
@@ -90,8 +89,7 @@ fn pack_check(answer: Checked) -> u64
 }
 
 // What a simulator calls once, for a tree that it did not make: whether it is right for the table.
-#[unsafe(no_mangle)]
-pub extern "C" fn kilnumber_check(table: &[u32], tree: &[u32]) -> u64
+pub fn kilnumber_check(table: &[u32], tree: &[u32]) -> u64
     ensures { result ≡ packed_check (check_of (read_table table.now) tree.now) }
 {
     let answer = checker::check(table, tree);
@@ -112,8 +110,7 @@ fn pack_measure(answer: Measured) -> u64
 }
 
 // What a board's tool calls before it lends memory for a tree: how many nodes, and how many tests at most.
-#[unsafe(no_mangle)]
-pub extern "C" fn kilnumber_measure(table: &[u32]) -> u64
+pub fn kilnumber_measure(table: &[u32]) -> u64
     ensures { result ≡ packed_measure (measure_of (read_table table.now)) }
 {
     let answer = maker::measure(table);
@@ -132,8 +129,7 @@ fn pack_cycles(answer: Costed) -> u64
 }
 
 // What a battery account calls, for each entry of its table: what one instruction of it costs.
-#[unsafe(no_mangle)]
-pub extern "C" fn kilnumber_cycles(table: &[u32], entry: u32) -> u64
+pub fn kilnumber_cycles(table: &[u32], entry: u32) -> u64
     ensures { result ≡ packed_number (cycles_of (read_table table.now) entry) }
 {
     let answer = cost::cycles(table, entry);
@@ -157,8 +153,7 @@ fn pack_changed(answer: Changed) -> u64
 }
 
 // What a core's designer calls before an instruction is withdrawn: how many words of a list, of a firmware say, it changes.
-#[unsafe(no_mangle)]
-pub extern "C" fn kilnumber_changed(table: &[u32], entry: u32, list: &[u32]) -> u64
+pub fn kilnumber_changed(table: &[u32], entry: u32, list: &[u32]) -> u64
     ensures { result ≡ packed_count (changed_of (read_table table.now) entry list.now) }
 {
     let answer = withdrawal::count_changed(table, entry, list);
@@ -166,6 +161,7 @@ pub extern "C" fn kilnumber_changed(table: &[u32], entry: u32, list: &[u32]) -> 
 }
 
 // A whole number of at most 32 bits beside its sign, in 64 bits.
+#[tactic(auto, unfolding(numbers::specs::Whole::on_side))]
 fn pack_whole(below: bool, size: u64) -> u64
     requires { size < 2 ^ 32 }
     ensures { result ≡ packed_whole (on_side below size) }
@@ -193,8 +189,7 @@ fn pack_signed(answer: SignedNumber) -> u64
 }
 
 // What a simulator calls to show an operand: the signed whole number of a field's stored value.
-#[unsafe(no_mangle)]
-pub extern "C" fn kilnumber_signed(field: u32, value: u32) -> u64
+pub fn kilnumber_signed(field: u32, value: u32) -> u64
     ensures { result ≡ packed_signed (signed_of field value) }
 {
     let answer = numbers::signed(field, value);
@@ -213,8 +208,7 @@ fn pack_stored(answer: StoredValue) -> u64
 }
 
 // What an assembler calls: the stored value of a signed whole number.
-#[unsafe(no_mangle)]
-pub extern "C" fn kilnumber_stored(field: u32, number: i64) -> u64
+pub fn kilnumber_stored(field: u32, number: i64) -> u64
     ensures { result ≡ packed_number (stored_of field number) }
 {
     let answer = numbers::stored(field, number);
@@ -234,8 +228,7 @@ fn pack_length(answer: TextLength) -> u64
 }
 
 // What a simulator calls to print an operand: its exact decimal text at the start of a buffer.
-#[unsafe(no_mangle)]
-pub extern "C" fn kilnumber_text(field: u32, value: u32, out: &mut [u8]) -> u64
+pub fn kilnumber_text(field: u32, value: u32, out: &mut [u8]) -> u64
     ensures { WritesPacked field value out.old out.new result }
 {
     let answer = numbers::put_text(field, value, out);

@@ -1,16 +1,19 @@
 // Answers the requests on standard input, each by one line, until the input ends or a request stops
 // it. The libraries decide what an answer is and how a number is written. The functions here are
-// proved safe; what they print is tested.
+// proved safe; what they print is tested. A read or a write that fails ends the program with its error.
+#![tactic(auto)]
+
 ghost use Rattle.std.specs.Prelude.{◌≡◌, length};
 
 use checker::Checked;
 use cost::Costed;
 use image::{HalfwordAddress, Listed, Stepped};
-use libc::{STDIN_FILENO, STDOUT_FILENO};
 use maker::{Generated, Measured};
 use numbers::{SignedNumber, StoredValue, TextLength};
 use operands::{Decoding, Encoding};
 use selection::Selected;
+use std::io;
+use std::io::Write;
 use table::Answer;
 use walker::Walked;
 use withdrawal::Changed;
@@ -163,331 +166,480 @@ fn first_bytes(bytes: &[u8], n: usize) -> &[u8] {
     &bytes[0..end]
 }
 
-fn first_words_lem(ws: &[u32], n: usize) -> &[u32] {
+fn first_words(ws: &[u32], n: usize) -> &[u32] {
     let end = words::lesser(n, ws.len());
     &ws[0..end]
 }
 
-// Writes the page's first bytes. Where that fails there is nobody to tell.
-fn flush(page: &[u8], at: usize) {
-    io::write_all(STDOUT_FILENO, first_bytes(page, at));
+// Writes the page's first bytes. Where that fails the program ends with the error.
+fn flush(output: &mut impl Write, page: &[u8], at: usize) -> io::Result<()> {
+    streams::write(output, first_bytes(page, at))
 }
 
 // Puts bytes on the page; one that has no room for them is written out first.
-fn put(page: &mut [u8], at: usize, bytes: &[u8]) -> usize {
+fn put(output: &mut impl Write, page: &mut [u8], at: usize, bytes: &[u8]) -> io::Result<usize> {
     let end = text::put_bytes(page, at, bytes);
     if at < end {
-        return end;
+        return Ok(end);
     }
-    flush(page, at);
-    text::put_bytes(page, 0, bytes)
+    flush(output, page, at)?;
+    Ok(text::put_bytes(page, 0, bytes))
 }
 
 // A number in decimal.
-fn put_decimal(page: &mut [u8], at: usize, n: u32) -> usize {
+fn put_decimal(output: &mut impl Write, page: &mut [u8], at: usize, n: u32) -> io::Result<usize> {
     let mut digits = [0u8; 10];
     let end = text::put_decimal(&mut digits, 0, n);
-    put(page, at, first_bytes(&digits, end))
+    put(output, page, at, first_bytes(&digits, end))
 }
 
 // A word in eight digits.
-fn put_digits(page: &mut [u8], at: usize, w: u32) -> usize {
+fn put_digits(output: &mut impl Write, page: &mut [u8], at: usize, w: u32) -> io::Result<usize> {
     let mut digits = [0u8; 8];
     text::put_hex(&mut digits, 0, w);
-    put(page, at, &digits)
+    put(output, page, at, &digits)
 }
 
 // A space and a number, in decimal.
-fn put_number(page: &mut [u8], at: usize, n: u32) -> usize {
-    let next = put(page, at, b" ");
-    put_decimal(page, next, n)
+fn put_number(output: &mut impl Write, page: &mut [u8], at: usize, n: u32) -> io::Result<usize> {
+    let next = put(output, page, at, b" ")?;
+    put_decimal(output, page, next, n)
 }
 
 // A space and a word, in eight digits.
-fn put_word(page: &mut [u8], at: usize, w: u32) -> usize {
-    let next = put(page, at, b" ");
-    put_digits(page, next, w)
+fn put_word(output: &mut impl Write, page: &mut [u8], at: usize, w: u32) -> io::Result<usize> {
+    let next = put(output, page, at, b" ")?;
+    put_digits(output, page, next, w)
 }
 
 // A space and a whole number of fewer than 33 bits beside its sign, in decimal.
-fn put_whole(page: &mut [u8], at: usize, number: i64) -> usize {
+fn put_whole(
+    output: &mut impl Write,
+    page: &mut [u8],
+    at: usize,
+    number: i64,
+) -> io::Result<usize> {
     let side = numbers::side_of(number);
     let size = side.size % 4294967296;
     if !side.below {
-        return put_number(page, at, size as u32);
+        return put_number(output, page, at, size as u32);
     }
-    let next = put(page, at, b" -");
-    put_decimal(page, next, ((size + 1) % 4294967296) as u32)
+    let next = put(output, page, at, b" -")?;
+    put_decimal(output, page, next, ((size + 1) % 4294967296) as u32)
 }
 
 // Why something is refused, or zeros.
-fn put_cause(page: &mut [u8], at: usize, cause: Cause) -> usize {
-    let number = put_number(page, at, cause.number);
-    let place = put_number(page, number, cause.place);
-    put_word(page, place, cause.word)
+fn put_cause(
+    output: &mut impl Write,
+    page: &mut [u8],
+    at: usize,
+    cause: Cause,
+) -> io::Result<usize> {
+    let number = put_number(output, page, at, cause.number)?;
+    let place = put_number(output, page, number, cause.place)?;
+    put_word(output, page, place, cause.word)
 }
 
 // The words of a buffer after a call.
-fn put_buffer(page: &mut [u8], at: usize, words: &[u32]) -> usize {
-    let mut next = put(page, at, b" |");
+fn put_buffer(
+    output: &mut impl Write,
+    page: &mut [u8],
+    at: usize,
+    words: &[u32],
+) -> io::Result<usize> {
+    let mut next = put(output, page, at, b" |")?;
     let mut i = 0;
     while i < words.len() {
-        next = put_word(page, next, words[i]);
+        next = put_word(output, page, next, words[i])?;
         i += 1;
     }
-    next
+    Ok(next)
 }
 
 // A space and a byte, in two digits.
-fn put_byte(page: &mut [u8], at: usize, b: u8) -> usize {
+fn put_byte(output: &mut impl Write, page: &mut [u8], at: usize, b: u8) -> io::Result<usize> {
     let mut digits = [0u8; 8];
     text::put_hex(&mut digits, 0, b as u32);
-    let next = put(page, at, b" ");
-    put(page, next, &digits[6..])
+    let next = put(output, page, at, b" ")?;
+    put(output, page, next, &digits[6..])
 }
 
 // The bytes of a buffer after a call.
-fn put_byte_buffer(page: &mut [u8], at: usize, bytes: &[u8]) -> usize {
-    let mut next = put(page, at, b" |");
+fn put_byte_buffer(
+    output: &mut impl Write,
+    page: &mut [u8],
+    at: usize,
+    bytes: &[u8],
+) -> io::Result<usize> {
+    let mut next = put(output, page, at, b" |")?;
     let mut i = 0;
     while i < bytes.len() {
-        next = put_byte(page, next, bytes[i]);
+        next = put_byte(output, page, next, bytes[i])?;
         i += 1;
     }
-    next
+    Ok(next)
 }
 
 // Where the program stops.
-fn put_stopped(page: &mut [u8], at: usize, index: u32) -> usize {
-    let next = put(page, at, b"stopped");
-    let end = put_number(page, next, index);
-    put(page, end, b"\n")
+fn put_stopped(
+    output: &mut impl Write,
+    page: &mut [u8],
+    at: usize,
+    index: u32,
+) -> io::Result<usize> {
+    let next = put(output, page, at, b"stopped")?;
+    let end = put_number(output, page, next, index)?;
+    put(output, page, end, b"\n")
 }
 
 // Request 1.
-fn put_read(page: &mut [u8], at: usize, ws: &[u32], parts: Parts) -> usize {
+fn put_read(
+    output: &mut impl Write,
+    page: &mut [u8],
+    at: usize,
+    ws: &[u32],
+    parts: Parts,
+) -> io::Result<usize> {
     let reading = table::read(words_in(ws, parts[0]));
     let answer = reading.answer;
-    let next = put_cause(page, at, answer.cause());
+    let next = put_cause(output, page, at, answer.cause())?;
     match answer {
         Answer::Accepted { width, count } => {
-            let end = put_number(page, next, width);
-            put_number(page, end, count)
+            let end = put_number(output, page, next, width)?;
+            put_number(output, page, end, count)
         }
-        _ => next,
+        _ => Ok(next),
     }
 }
 
 // Request 2.
-fn put_lookup(page: &mut [u8], at: usize, ws: &[u32], parts: Parts) -> usize {
+fn put_lookup(
+    output: &mut impl Write,
+    page: &mut [u8],
+    at: usize,
+    ws: &[u32],
+    parts: Parts,
+) -> io::Result<usize> {
     let answer = selection::lookup(words_in(ws, parts[0]), number_in(ws, parts[1]));
-    let next = put_cause(page, at, answer.cause());
+    let next = put_cause(output, page, at, answer.cause())?;
     match answer {
-        Selected::Entry(entry) => put_number(page, next, entry),
-        Selected::Nothing => put(page, next, b" nothing"),
-        _ => next,
+        Selected::Entry(entry) => put_number(output, page, next, entry),
+        Selected::Nothing => put(output, page, next, b" nothing"),
+        _ => Ok(next),
     }
 }
 
 // Request 3.
-fn put_generated(page: &mut [u8], at: usize, answer: Generated) -> usize {
-    let next = put_cause(page, at, answer.cause());
+fn put_generated(
+    output: &mut impl Write,
+    page: &mut [u8],
+    at: usize,
+    answer: Generated,
+) -> io::Result<usize> {
+    let next = put_cause(output, page, at, answer.cause())?;
     match answer {
-        Generated::Words(count) => put_number(page, next, count),
-        _ => next,
+        Generated::Words(count) => put_number(output, page, next, count),
+        _ => Ok(next),
     }
 }
 
-fn put_generate(page: &mut [u8], at: usize, ws: &[u32], parts: Parts, out: &mut [u32]) -> usize {
+fn put_generate(
+    output: &mut impl Write,
+    page: &mut [u8],
+    at: usize,
+    ws: &[u32],
+    parts: Parts,
+    out: &mut [u32],
+) -> io::Result<usize> {
     let answer = maker::generate(words_in(ws, parts[0]), out);
-    let end = put_generated(page, at, answer);
-    put_buffer(page, end, out)
+    let end = put_generated(output, page, at, answer)?;
+    put_buffer(output, page, end, out)
 }
 
 // Request 4.
-fn put_simulate(page: &mut [u8], at: usize, bytes: &[u8], ws: &[u32], parts: Parts) -> usize {
+fn put_simulate(
+    output: &mut impl Write,
+    page: &mut [u8],
+    at: usize,
+    bytes: &[u8],
+    ws: &[u32],
+    parts: Parts,
+) -> io::Result<usize> {
     let result = kilnumber::kilnumber_walk(bytes_in(bytes, parts[0]), number_in(ws, parts[1]));
-    let next = put(page, at, b" 0 0 00000000");
-    let high = put_word(page, next, (result >> 32) as u32);
-    put_digits(page, high, (result % 4294967296) as u32)
+    let next = put(output, page, at, b" 0 0 00000000")?;
+    let high = put_word(output, page, next, (result >> 32) as u32)?;
+    put_digits(output, page, high, (result % 4294967296) as u32)
 }
 
 // Request 5.
-fn put_decoded(page: &mut [u8], at: usize, answer: Decoding) -> usize {
-    let next = put_cause(page, at, answer.cause());
+fn put_decoded(
+    output: &mut impl Write,
+    page: &mut [u8],
+    at: usize,
+    answer: Decoding,
+) -> io::Result<usize> {
+    let next = put_cause(output, page, at, answer.cause())?;
     match answer {
-        Decoding::Entry(entry, _) => put_number(page, next, entry),
-        Decoding::Nothing => put(page, next, b" nothing"),
-        _ => next,
+        Decoding::Entry(entry, _) => put_number(output, page, next, entry),
+        Decoding::Nothing => put(output, page, next, b" nothing"),
+        _ => Ok(next),
     }
 }
 
-fn put_decode(page: &mut [u8], at: usize, ws: &[u32], parts: Parts, out: &mut [u32]) -> usize {
+fn put_decode(
+    output: &mut impl Write,
+    page: &mut [u8],
+    at: usize,
+    ws: &[u32],
+    parts: Parts,
+    out: &mut [u32],
+) -> io::Result<usize> {
     let answer = operands::decode(words_in(ws, parts[0]), number_in(ws, parts[1]), out);
-    let end = put_decoded(page, at, answer);
-    put_buffer(page, end, out)
+    let end = put_decoded(output, page, at, answer)?;
+    put_buffer(output, page, end, out)
 }
 
 // Request 6.
-fn put_encode(page: &mut [u8], at: usize, ws: &[u32], parts: Parts) -> usize {
+fn put_encode(
+    output: &mut impl Write,
+    page: &mut [u8],
+    at: usize,
+    ws: &[u32],
+    parts: Parts,
+) -> io::Result<usize> {
     let entry = number_in(ws, parts[1]);
     let answer = operands::encode(words_in(ws, parts[0]), entry, words_in(ws, parts[2]));
-    let next = put_cause(page, at, answer.cause());
+    let next = put_cause(output, page, at, answer.cause())?;
     match answer {
-        Encoding::Word(w) => put_word(page, next, w),
-        _ => next,
+        Encoding::Word(w) => put_word(output, page, next, w),
+        _ => Ok(next),
     }
 }
 
 // Request 7.
-fn put_check(page: &mut [u8], at: usize, ws: &[u32], parts: Parts) -> usize {
+fn put_check(
+    output: &mut impl Write,
+    page: &mut [u8],
+    at: usize,
+    ws: &[u32],
+    parts: Parts,
+) -> io::Result<usize> {
     let answer = checker::check(words_in(ws, parts[0]), words_in(ws, parts[1]));
-    let next = put_cause(page, at, answer.cause());
+    let next = put_cause(output, page, at, answer.cause())?;
     match answer {
-        Checked::Yes => put(page, next, b" yes"),
-        _ => next,
+        Checked::Yes => put(output, page, next, b" yes"),
+        _ => Ok(next),
     }
 }
 
 // Request 8.
-fn put_step(page: &mut [u8], at: usize, bytes: &[u8], ws: &[u32], parts: Parts) -> usize {
+fn put_step(
+    output: &mut impl Write,
+    page: &mut [u8],
+    at: usize,
+    bytes: &[u8],
+    ws: &[u32],
+    parts: Parts,
+) -> io::Result<usize> {
     let table = words_in(ws, parts[0]);
     let tree = words_in(ws, parts[1]);
     let address = HalfwordAddress(number_in(ws, parts[3]));
     let answer = image::step(table, tree, bytes_in(bytes, parts[2]), address);
-    let next = put_cause(page, at, answer.cause());
+    let next = put_cause(output, page, at, answer.cause())?;
     match answer {
         Stepped::Item(item, after, mask) => {
-            let end = put_word(page, next, item);
-            let last = put_number(page, end, after.0);
-            put_word(page, last, mask)
+            let end = put_word(output, page, next, item)?;
+            let last = put_number(output, page, end, after.0)?;
+            put_word(output, page, last, mask)
         }
-        Stepped::End => put(page, next, b" end"),
-        _ => next,
+        Stepped::End => put(output, page, next, b" end"),
+        _ => Ok(next),
     }
 }
 
 // Request 9.
-fn put_listed(page: &mut [u8], at: usize, answer: Listed) -> usize {
-    let next = put_cause(page, at, answer.cause());
+fn put_listed(
+    output: &mut impl Write,
+    page: &mut [u8],
+    at: usize,
+    answer: Listed,
+) -> io::Result<usize> {
+    let next = put_cause(output, page, at, answer.cause())?;
     match answer {
-        Listed::Items(count) => put_number(page, next, count),
-        _ => next,
+        Listed::Items(count) => put_number(output, page, next, count),
+        _ => Ok(next),
     }
 }
 
 fn put_list(
+    output: &mut impl Write,
     page: &mut [u8],
     at: usize,
     bytes: &[u8],
     ws: &[u32],
     parts: Parts,
     out: &mut [u32],
-) -> usize {
+) -> io::Result<usize> {
     let table = words_in(ws, parts[0]);
     let tree = words_in(ws, parts[1]);
     let answer = image::list(table, tree, bytes_in(bytes, parts[2]), out);
-    let end = put_listed(page, at, answer);
-    put_buffer(page, end, out)
+    let end = put_listed(output, page, at, answer)?;
+    put_buffer(output, page, end, out)
 }
 
 // Request 10.
-fn put_walk(page: &mut [u8], at: usize, ws: &[u32], parts: Parts) -> usize {
+fn put_walk(
+    output: &mut impl Write,
+    page: &mut [u8],
+    at: usize,
+    ws: &[u32],
+    parts: Parts,
+) -> io::Result<usize> {
     let answer = walker::walk(words_in(ws, parts[0]), number_in(ws, parts[1]));
-    let next = put_cause(page, at, answer.cause());
+    let next = put_cause(output, page, at, answer.cause())?;
     match answer {
         Walked::Entry(entry, count, mask) => {
-            let end = put_number(page, next, entry);
-            let last = put_number(page, end, count);
-            put_word(page, last, mask)
+            let end = put_number(output, page, next, entry)?;
+            let last = put_number(output, page, end, count)?;
+            put_word(output, page, last, mask)
         }
         Walked::Nothing(count, mask) => {
-            let end = put(page, next, b" nothing");
-            let last = put_number(page, end, count);
-            put_word(page, last, mask)
+            let end = put(output, page, next, b" nothing")?;
+            let last = put_number(output, page, end, count)?;
+            put_word(output, page, last, mask)
         }
-        _ => next,
+        _ => Ok(next),
     }
 }
 
 // Request 11.
-fn put_mask(page: &mut [u8], at: usize, bytes: &[u8], ws: &[u32], parts: Parts) -> usize {
+fn put_mask(
+    output: &mut impl Write,
+    page: &mut [u8],
+    at: usize,
+    bytes: &[u8],
+    ws: &[u32],
+    parts: Parts,
+) -> io::Result<usize> {
     let mask = kilnumber::kilnumber_mask(bytes_in(bytes, parts[0]), number_in(ws, parts[1]));
-    let next = put(page, at, b" 0 0 00000000");
-    put_word(page, next, mask)
+    let next = put(output, page, at, b" 0 0 00000000")?;
+    put_word(output, page, next, mask)
 }
 
 // Request 12.
-fn put_measure(page: &mut [u8], at: usize, ws: &[u32], parts: Parts) -> usize {
+fn put_measure(
+    output: &mut impl Write,
+    page: &mut [u8],
+    at: usize,
+    ws: &[u32],
+    parts: Parts,
+) -> io::Result<usize> {
     let answer = maker::measure(words_in(ws, parts[0]));
-    let next = put_cause(page, at, answer.cause());
+    let next = put_cause(output, page, at, answer.cause())?;
     match answer {
         Measured::Tree(nodes, tests) => {
-            let end = put_number(page, next, nodes);
-            put_number(page, end, tests)
+            let end = put_number(output, page, next, nodes)?;
+            put_number(output, page, end, tests)
         }
-        _ => next,
+        _ => Ok(next),
     }
 }
 
 // Request 13.
-fn put_cycles(page: &mut [u8], at: usize, ws: &[u32], parts: Parts) -> usize {
+fn put_cycles(
+    output: &mut impl Write,
+    page: &mut [u8],
+    at: usize,
+    ws: &[u32],
+    parts: Parts,
+) -> io::Result<usize> {
     let answer = cost::cycles(words_in(ws, parts[0]), number_in(ws, parts[1]));
-    let next = put_cause(page, at, answer.cause());
+    let next = put_cause(output, page, at, answer.cause())?;
     match answer {
-        Costed::Cycles(count) => put_number(page, next, count),
-        _ => next,
+        Costed::Cycles(count) => put_number(output, page, next, count),
+        _ => Ok(next),
     }
 }
 
 // Request 14.
-fn put_signed(page: &mut [u8], at: usize, ws: &[u32], parts: Parts) -> usize {
+fn put_signed(
+    output: &mut impl Write,
+    page: &mut [u8],
+    at: usize,
+    ws: &[u32],
+    parts: Parts,
+) -> io::Result<usize> {
     let answer = numbers::signed(number_in(ws, parts[0]), number_in(ws, parts[1]));
-    let next = put_cause(page, at, answer.cause());
+    let next = put_cause(output, page, at, answer.cause())?;
     match answer {
-        SignedNumber::Number(number) => put_whole(page, next, number),
-        _ => next,
+        SignedNumber::Number(number) => put_whole(output, page, next, number),
+        _ => Ok(next),
     }
 }
 
 // Request 15.
-fn put_stored(page: &mut [u8], at: usize, ws: &[u32], parts: Parts) -> usize {
+fn put_stored(
+    output: &mut impl Write,
+    page: &mut [u8],
+    at: usize,
+    ws: &[u32],
+    parts: Parts,
+) -> io::Result<usize> {
     let answer = numbers::stored(number_in(ws, parts[0]), long_in(ws, parts[1]));
-    let next = put_cause(page, at, answer.cause());
+    let next = put_cause(output, page, at, answer.cause())?;
     match answer {
-        StoredValue::Value(value) => put_word(page, next, value),
-        _ => next,
+        StoredValue::Value(value) => put_word(output, page, next, value),
+        _ => Ok(next),
     }
 }
 
 // Request 16.
-fn put_length(page: &mut [u8], at: usize, answer: TextLength) -> usize {
-    let next = put_cause(page, at, answer.cause());
+fn put_length(
+    output: &mut impl Write,
+    page: &mut [u8],
+    at: usize,
+    answer: TextLength,
+) -> io::Result<usize> {
+    let next = put_cause(output, page, at, answer.cause())?;
     match answer {
-        TextLength::Length(length) => put_number(page, next, length),
-        _ => next,
+        TextLength::Length(length) => put_number(output, page, next, length),
+        _ => Ok(next),
     }
 }
 
-fn put_text(page: &mut [u8], at: usize, ws: &[u32], parts: Parts, out: &mut [u8]) -> usize {
+fn put_text(
+    output: &mut impl Write,
+    page: &mut [u8],
+    at: usize,
+    ws: &[u32],
+    parts: Parts,
+    out: &mut [u8],
+) -> io::Result<usize> {
     let answer = numbers::put_text(number_in(ws, parts[0]), number_in(ws, parts[1]), out);
-    let end = put_length(page, at, answer);
-    put_byte_buffer(page, end, out)
+    let end = put_length(output, page, at, answer)?;
+    put_byte_buffer(output, page, end, out)
 }
 
 // Request 22. A list that came in has fewer than 2^32 words.
-fn put_changed(page: &mut [u8], at: usize, ws: &[u32], parts: Parts) -> usize {
+fn put_changed(
+    output: &mut impl Write,
+    page: &mut [u8],
+    at: usize,
+    ws: &[u32],
+    parts: Parts,
+) -> io::Result<usize> {
     let entry = number_in(ws, parts[1]);
     let answer = withdrawal::count_changed(words_in(ws, parts[0]), entry, words_in(ws, parts[2]));
-    let next = put_cause(page, at, answer.cause());
+    let next = put_cause(output, page, at, answer.cause())?;
     match answer {
-        Changed::Words(count) => put_number(page, next, (count % 4294967296) as u32),
-        _ => next,
+        Changed::Words(count) => put_number(output, page, next, (count % 4294967296) as u32),
+        _ => Ok(next),
     }
 }
 
 // What follows a request's number on its line.
 fn put_answer(
+    output: &mut impl Write,
     page: &mut [u8],
     at: usize,
     bytes: &[u8],
@@ -495,33 +647,49 @@ fn put_answer(
     request: Request,
     room: &mut [u32],
     byte_room: &mut [u8],
-) -> usize {
+) -> io::Result<usize> {
     let number = request.number;
     let parts = request.parts;
     match number {
-        1 => put_read(page, at, ws, parts),
-        2 => put_lookup(page, at, ws, parts),
-        3 => put_generate(page, at, ws, parts, lent(room, bytes, parts[1])),
-        4 => put_simulate(page, at, bytes, ws, parts),
-        5 => put_decode(page, at, ws, parts, lent(room, bytes, parts[2])),
-        6 => put_encode(page, at, ws, parts),
-        7 => put_check(page, at, ws, parts),
-        8 => put_step(page, at, bytes, ws, parts),
-        9 => put_list(page, at, bytes, ws, parts, lent(room, bytes, parts[3])),
-        10 => put_walk(page, at, ws, parts),
-        11 => put_mask(page, at, bytes, ws, parts),
-        12 => put_measure(page, at, ws, parts),
-        13 => put_cycles(page, at, ws, parts),
-        14 => put_signed(page, at, ws, parts),
-        15 => put_stored(page, at, ws, parts),
-        16 => put_text(page, at, ws, parts, lent_bytes(byte_room, bytes, parts[2])),
-        WITHDRAWAL => put_changed(page, at, ws, parts),
-        _ => at,
+        1 => put_read(output, page, at, ws, parts),
+        2 => put_lookup(output, page, at, ws, parts),
+        3 => put_generate(output, page, at, ws, parts, lent(room, bytes, parts[1])),
+        4 => put_simulate(output, page, at, bytes, ws, parts),
+        5 => put_decode(output, page, at, ws, parts, lent(room, bytes, parts[2])),
+        6 => put_encode(output, page, at, ws, parts),
+        7 => put_check(output, page, at, ws, parts),
+        8 => put_step(output, page, at, bytes, ws, parts),
+        9 => put_list(
+            output,
+            page,
+            at,
+            bytes,
+            ws,
+            parts,
+            lent(room, bytes, parts[3]),
+        ),
+        10 => put_walk(output, page, at, ws, parts),
+        11 => put_mask(output, page, at, bytes, ws, parts),
+        12 => put_measure(output, page, at, ws, parts),
+        13 => put_cycles(output, page, at, ws, parts),
+        14 => put_signed(output, page, at, ws, parts),
+        15 => put_stored(output, page, at, ws, parts),
+        16 => put_text(
+            output,
+            page,
+            at,
+            ws,
+            parts,
+            lent_bytes(byte_room, bytes, parts[2]),
+        ),
+        WITHDRAWAL => put_changed(output, page, at, ws, parts),
+        _ => Ok(at),
     }
 }
 
 // The line of a request.
 fn put_line(
+    output: &mut impl Write,
     page: &mut [u8],
     at: usize,
     bytes: &[u8],
@@ -529,22 +697,23 @@ fn put_line(
     request: Request,
     room: &mut [u32],
     byte_room: &mut [u8],
-) -> usize {
-    let first = put_decimal(page, at, request.number);
-    let end = put_answer(page, first, bytes, ws, request, room, byte_room);
-    put(page, end, b"\n")
+) -> io::Result<usize> {
+    let first = put_decimal(output, page, at, request.number)?;
+    let end = put_answer(output, page, first, bytes, ws, request, room, byte_room)?;
+    put(output, page, end, b"\n")
 }
 
 // Puts a line for each request, up to one that stops the program. The words are those of the bytes.
 fn put_lines(
+    output: &mut impl Write,
     page: &mut [u8],
     bytes: &[u8],
     ws: &[u32],
     room: &mut [u32],
     byte_room: &mut [u8],
-) -> usize {
+) -> io::Result<usize> {
     if MOST_BYTES < bytes.len() {
-        return put_stopped(page, 0, 0);
+        return put_stopped(output, page, 0, 0);
     }
     // bytes that make no whole word count as one more, with which no request is whole
     let end = (bytes.len() + 3) / 4;
@@ -554,12 +723,12 @@ fn put_lines(
         let request = request_at(ws, index);
         let next = request.next;
         if next <= index {
-            return put_stopped(page, at, index as u32);
+            return put_stopped(output, page, at, index as u32);
         }
-        at = put_line(page, at, bytes, ws, request, room, byte_room);
+        at = put_line(output, page, at, bytes, ws, request, room, byte_room)?;
         index = next;
     }
-    at
+    Ok(at)
 }
 
 // Zeros. Their length is all that a proof sees of them.
@@ -575,17 +744,18 @@ fn zero_words() -> [u32; MOST_WORDS]
     [0; MOST_WORDS]
 }
 
-fn main() {
+fn main(rt: HostRuntime) -> io::Result<()> {
     // one byte more than is taken, to see that there is more
     let mut bytes = zero_bytes();
-    let got = io::read_full(STDIN_FILENO, &mut bytes);
+    let got = streams::fill(&mut rt.stdin(), &mut bytes)?;
     let asked = first_bytes(&bytes, got);
     let mut space = zero_words();
     let whole = words::words_of(asked, &mut space);
     let mut room = zero_words();
     let mut byte_room = zero_bytes();
-    let mut page = io::large_buffer();
-    let ws = first_words_lem(&space, whole);
-    let end = put_lines(&mut page, asked, ws, &mut room, &mut byte_room);
-    flush(&page, end);
+    let mut page = streams::page();
+    let ws = first_words(&space, whole);
+    let output = &mut rt.stdout();
+    let end = put_lines(output, &mut page, asked, ws, &mut room, &mut byte_room)?;
+    flush(output, &page, end)
 }

@@ -8,7 +8,7 @@ use lib.Dec.{eqb, ltb}
 use lib.ListN.{length}
 use borrow.Author.Tests.{ltb-true}
 use Rattle.words.specs.Tests.{all_of}
-use Rattle.words.specs.Words.{word, part, bits}
+use Rattle.words.specs.Words.{part, bits}
 use Rattle.words.proofs.Logic.{cases, same, all_of_at, all_of_make, every_same}
 use Rattle.words.proofs.Parts.{part_lt}
 use Rattle.table.specs.Table.{Entry, entry_number, kind_of}

@@ -1,13 +1,11 @@
 use mathlib.Core.Path.{◌≡◌, sym, ◌∙◌}
 use native.Mathlib.Omega.{arith}
-use borrow.Author.Tests.{not-true, not-false}
 use Rattle.cell.proofs.Deciding.{decide_names, decide_nothing, decide_conflict, decide_test}
 use Rattle.cell.specs.Decide.{cell}
 use Rattle.cell.specs.Step.{end, step_at}
 use Rattle.choice.specs.Judged.{entry_placed}
 use Rattle.choice.specs.Rule.{names}
 use Prim.Native.Nat.{◌<◌, min}
-use borrow.Author.Rules.{rules}
 use Rattle.cell.proofs.decide.Goals as goal
 
 -- a named entry is one of the n that were judged

@@ -1,14 +1,8 @@
-use Rattle.choice.specs.Rule.{gives_way, beats_at}
-use Rattle.choice.specs.Status.{live_in}
-use Rattle.choice.specs.Judged.{entry_placed}
+use Rattle.choice.specs.Rule.{beats_at}
 use Rattle.words.proofs.Logic.{every_make, every_not}
-use borrow.Author.Tests.{not-true, not-false}
 use borrow.Author.Count.{below_none, below_more}
-use mathlib.Core.Bool.{true}
-use mathlib.Core.Path.{◌≡◌, sym, ◌∙◌}
+use mathlib.Core.Path.{sym, ◌∙◌}
 use native.Mathlib.Omega.{arith}
-use Prim.Native.Nat.{ℕ, ◌≤◌, ◌<◌, ◌-◌}
-use borrow.Author.Rules.{rules}
 use Rattle.choice.proofs.beats.Goals as goal
 
 pub loop-j-init : goal.loop-j-init

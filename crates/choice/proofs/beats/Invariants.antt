@@ -1,14 +1,9 @@
-use Rattle.choice.specs.Rule.{gives_way, beats_at}
+use Rattle.choice.specs.Rule.{gives_way}
 use Rattle.choice.specs.Status.{live_in}
 use Rattle.choice.specs.Judged.{entry_placed}
-use Rattle.words.proofs.Logic.{every_make, every_not}
-use borrow.Author.Tests.{not-true, not-false}
-use borrow.Author.Count.{below_none, below_more}
 use mathlib.Core.Bool.{true}
-use mathlib.Core.Path.{◌≡◌, sym, ◌∙◌}
-use native.Mathlib.Omega.{arith}
+use mathlib.Core.Path.{◌≡◌}
 use Prim.Native.Nat.{ℕ, ◌≤◌, ◌<◌, ◌-◌}
-use borrow.Author.Rules.{rules}
 use Rattle.choice.proofs.beats.Given as goal
 
 abbrev pub invariant-loop-j : goal.invariant-loop-j

@@ -1,5 +1,4 @@
 use Rattle.choice.proofs.Leading.{not_dead, is_dead, way_self, way_out, way_less}
-use borrow.Author.Rules.{rules}
 use Rattle.choice.proofs.gives_way.Goals as goal
 
 pub returns-then-j-i : goal.returns-then-j-i

@@ -1,11 +1,6 @@
-use Rattle.choice.specs.Status.{live_in}
-use Rattle.choice.specs.Judged.{entry_placed}
-use mathlib.Core.Logic.{⊎_elim}
-use Rattle.choice.proofs.Leading.{not_dead, is_dead, Ahead, ahead_start, ahead_out, ahead_stays, ahead_taken, ahead_leads}
+use Rattle.choice.proofs.Leading.{not_dead, is_dead, ahead_start, ahead_out, ahead_stays, ahead_taken, ahead_leads}
 use mathlib.Core.Path.{sym, ◌∙◌}
 use native.Mathlib.Omega.{arith}
-use Prim.Native.Nat.{◌≤◌, ◌-◌}
-use borrow.Author.Rules.{rules}
 use Rattle.choice.proofs.leader.Goals as goal
 use Rattle.choice.proofs.leader.Goals.{then-s-k-ne-DEAD+then-more_specific, then-s-k-ne-DEAD+else-more_specific, else-s-k-ne-DEAD}
 

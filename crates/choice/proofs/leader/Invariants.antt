@@ -1,11 +1,7 @@
 use Rattle.choice.specs.Status.{live_in}
 use Rattle.choice.specs.Judged.{entry_placed}
-use mathlib.Core.Logic.{⊎_elim}
-use Rattle.choice.proofs.Leading.{not_dead, is_dead, Ahead, ahead_start, ahead_out, ahead_stays, ahead_taken, ahead_leads}
-use mathlib.Core.Path.{sym, ◌∙◌}
-use native.Mathlib.Omega.{arith}
+use Rattle.choice.proofs.Leading.{Ahead}
 use Prim.Native.Nat.{◌≤◌, ◌-◌}
-use borrow.Author.Rules.{rules}
 use Rattle.choice.proofs.leader.Given as goal
 
 abbrev pub invariant-loop-k : goal.invariant-loop-k

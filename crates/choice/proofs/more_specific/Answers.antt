@@ -1,5 +1,4 @@
 use Rattle.choice.proofs.Leading.{not_held, same_mask, by_value}
-use borrow.Author.Rules.{rules}
 use Rattle.choice.proofs.more_specific.Goals as goal
 
 pub returns-then-mask-less : goal.returns-then-mask-less

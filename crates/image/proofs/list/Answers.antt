@@ -1,6 +1,5 @@
 use mathlib.Core.Path.{refl}
 use Rattle.image.proofs.Admitting.{list_refused, list_faulty, list_filled}
-use borrow.Author.Rules.{rules}
 use Rattle.image.proofs.list.Goals as goal
 
 pub fill-requires : goal.fill-requires

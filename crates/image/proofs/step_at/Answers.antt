@@ -1,7 +1,6 @@
 use Rattle.image.specs.declared.Stepped.TheVariants as stepped
 use mathlib.Core.Path.{refl}
 use Rattle.image.proofs.Admitting.{step_refused, step_faulty, step_made}
-use borrow.Author.Rules.{rules}
 use Rattle.image.proofs.step_at.Goals as goal
 
 pub step_ready-requires : goal.step_ready-requires

@@ -1,6 +1,5 @@
 use Rattle.maker.proofs.Generating.{generate_faulty, generate_read}
 use Rattle.table.proofs.Views.{reading_ready, reading_faulty}
-use borrow.Author.Rules.{rules}
 use Rattle.maker.proofs.generate.Goals as goal
 
 pub write_tree-requires : goal.write_tree-requires

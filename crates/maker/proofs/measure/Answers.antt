@@ -1,7 +1,6 @@
 use mathlib.Core.Path.{sym, ◌∙◌}
 use Rattle.table.proofs.Views.{reading_ready, reading_faulty}
 use Rattle.maker.proofs.Generating.{measure_faulty, measure_read}
-use borrow.Author.Rules.{rules}
 use Rattle.maker.proofs.measure.Goals as goal
 
 pub survey-requires : goal.survey-requires

@@ -1,5 +1,4 @@
 -- what the judge says, of the n entries; and that a named entry is one of them
-use Prim.Native.Nat.{◌<◌}
 use mathlib.Core.Path.{◌≡◌, refl, sym, ap, ◌∙◌}
 use Rattle.selection.proofs.Finding.{judged, chosen_lt}
 use Rattle.selection.specs.Places.{chosen_at}

@@ -1,10 +1,8 @@
 use Rattle.words.proofs.Parts.{part_of, part_lt}
 use Rattle.selection.proofs.Exclusion.{claims_not, claims_by}
-use borrow.Author.Tests.{not-true, not-false}
 use mathlib.Core.Path.{◌≡◌, sym, ◌∙◌}
 use native.Mathlib.Omega.{arith}
 use Rattle.words.specs.Words.{part}
-use borrow.Author.Rules.{rules}
 use Rattle.selection.proofs.claims.Goals as goal
 
 pub returns-then-not-matches : goal.returns-then-not-matches

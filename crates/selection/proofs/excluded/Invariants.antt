@@ -1,18 +1,9 @@
-use Rattle.words.proofs.Parts.{part_of, part_lt}
-use Prim.Native.Nat.{◌+◌, ◌*◌, ◌≤◌, ◌<◌}
-use mathlib.Core.Path.{◌≡◌, refl, sym, ◌∙◌}
-use mathlib.Core.Logic.{⊎_elim}
-use native.Mathlib.Omega.{arith}
-use borrow.Author.Tests.{lt-ltb, le-ltb}
-use Rattle.selection.proofs.Exclusion.{unmatching_pass, unmatching_found, unmatching_none, condition_pass, condition_found, condition_none, satisfies, fails_unmatching, fails_matching}
+use Prim.Native.Nat.{◌+◌, ◌*◌, ◌≤◌}
+use mathlib.Core.Path.{◌≡◌}
 use Rattle.choice.specs.Rule.{matches}
 use Rattle.selection.specs.Selection.{satisfied}
-use Rattle.words.specs.Words.{word, part}
-use Rattle.table.specs.Table.{pattern_at, unmatching_at, condition_at, conditions_at, unmatching_of}
+use Rattle.table.specs.Table.{unmatching_at, conditions_at}
 use Rattle.words.specs.Tests.{any_of}
-use mathlib.Core.Bool.{false}
-use lib.Dec.{ltb}
-use borrow.Author.Rules.{rules}
 use Rattle.selection.proofs.excluded.Given as goal
 
 abbrev pub invariant-loop-unmatchings : goal.invariant-loop-unmatchings

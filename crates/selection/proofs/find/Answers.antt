@@ -1,7 +1,6 @@
 use Rattle.selection.proofs.Finding.{faulty_look, among_finds}
 use Rattle.table.proofs.Views.{reading_ready, reading_faulty}
 use mathlib.Core.Path.{refl}
-use borrow.Author.Rules.{rules}
 use Rattle.selection.proofs.find.Goals as goal
 
 pub returns-in-Refused : goal.returns-in-Refused

@@ -1,5 +1,4 @@
 use Rattle.choice.specs.Rule.{matches}
-use borrow.Author.Rules.{rules}
 use Rattle.selection.proofs.matches.Goals as goal
 
 pub returns : goal.returns

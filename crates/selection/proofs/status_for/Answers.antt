@@ -1,6 +1,5 @@
 use mathlib.Core.Path.{sym, ◌∙◌}
 use Rattle.selection.proofs.Finding.{claim_sure, claim_dead}
-use borrow.Author.Rules.{rules}
 use Rattle.selection.proofs.status_for.Goals as goal
 
 pub returns-then-claims : goal.returns-then-claims

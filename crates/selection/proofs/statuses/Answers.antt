@@ -3,11 +3,9 @@ use Rattle.choice.specs.Judged.{entry_placed}
 use Rattle.choice.proofs.Placed.{filled_more}
 use Rattle.selection.specs.Places.{status_for}
 use borrow.Author.Count.{below_none}
-use lib.ListN.{length, get_or, length-set}
-use mathlib.Core.Path.{◌≡◌, refl}
+use lib.ListN.{length-set}
+use mathlib.Core.Path.{refl}
 use native.Mathlib.Omega.{arith}
-use Prim.Native.Nat.{ℕ, ◌≤◌, ◌<◌, ◌-◌}
-use borrow.Author.Rules.{rules}
 use Rattle.selection.proofs.statuses.Goals as goal
 
 pub loop-k-init : goal.loop-k-init

@@ -1,13 +1,9 @@
-use Rattle.choice.specs.Status.{code_of, Stated}
+use Rattle.choice.specs.Status.{code_of}
 use Rattle.choice.specs.Judged.{entry_placed}
-use Rattle.choice.proofs.Placed.{filled_more}
 use Rattle.selection.specs.Places.{status_for}
-use borrow.Author.Count.{below_none}
-use lib.ListN.{length, get_or, length-set}
-use mathlib.Core.Path.{◌≡◌, refl}
-use native.Mathlib.Omega.{arith}
+use lib.ListN.{length, get_or}
+use mathlib.Core.Path.{◌≡◌}
 use Prim.Native.Nat.{ℕ, ◌≤◌, ◌<◌, ◌-◌}
-use borrow.Author.Rules.{rules}
 use Rattle.selection.proofs.statuses.Given as goal
 
 abbrev pub invariant-loop-k : goal.invariant-loop-k

@@ -2,11 +2,10 @@ use Rattle.table.proofs.Laws.{checks, step_fault, pattern_next, patterns_on}
 use Rattle.table.specs.Check.{condition_check, pattern_check, unmatchings_check, ◌then◌}
 use Rattle.table.specs.Table.{unmatching_of}
 use Rattle.words.specs.Words.{word}
-use Prim.Native.Nat.{ℕ, ◌+◌}
-use mathlib.Core.Path.{◌≡◌, ◌∙◌, sym, ap}
+use Prim.Native.Nat.{◌+◌}
+use mathlib.Core.Path.{◌≡◌, ◌∙◌, sym}
 use native.Mathlib.Omega.{arith}
 use borrow.Author.Tests.{lt-leb, le-leb, eq-eqb, ne_eqb}
-use borrow.Author.Rules.{rules}
 use Rattle.table.proofs.condition.Goals as goal
 
 pub returns-then-ws-p : goal.returns-then-ws-p

@@ -1,12 +1,9 @@
 use Rattle.table.specs.Table.{conditions_end}
-use Prim.Native.Nat.{ℕ, ◌+◌, ◌*◌, ◌-◌, ◌≤◌}
-use mathlib.Core.Path.{◌≡◌, refl, sym, ◌∙◌}
-use native.Mathlib.Omega.{arith}
-use borrow.Author.Rules.{rules}
+use Prim.Native.Nat.{◌≤◌}
+use mathlib.Core.Path.{◌≡◌}
 use lib.ListN.{length}
 use Rattle.table.specs.Check.{conditions_check}
 use Rattle.table.specs.Answer.{step}
-use Rattle.table.proofs.Laws.{conditions_on, conditions_stop, condition_next, conditions_done}
 use Rattle.table.proofs.conditions.Given as goal
 
 abbrev pub invariant-loop-rest : goal.invariant-loop-rest

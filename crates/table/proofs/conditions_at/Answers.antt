@@ -2,7 +2,6 @@ use Rattle.words.proofs.Parts.{part_of, part_lt}
 use native.Mathlib.Omega.{arith}
 use mathlib.Core.Path.{ap₂}
 use Prim.Native.Nat.{◌+◌}
-use borrow.Author.Rules.{rules}
 use Rattle.table.proofs.conditions_at.Goals as goal
 
 pub returns : goal.returns

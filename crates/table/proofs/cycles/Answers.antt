@@ -1,13 +1,12 @@
 use Rattle.table.specs.Table.{fields_place}
 use Rattle.table.specs.Check.{cycles_check}
 use Rattle.table.proofs.Laws.{checks}
-use borrow.Author.Tests.{lt-leb, le-leb, not-true, not-false}
+use borrow.Author.Tests.{lt-leb, le-leb}
 use Rattle.table.specs.declared.Step.TheVariants.{Next}
 use Rattle.words.specs.Words.{word}
 use Prim.Native.Nat.{ℕ, ◌+◌, ◌≤◌, ◌<◌}
 use native.Mathlib.Omega.{arith}
 use mathlib.Core.Path.{sym, ap, ◌∙◌}
-use borrow.Author.Rules.{rules}
 use Rattle.table.proofs.cycles.Goals as goal
 
 pub returns-then-not-has_cycles : goal.returns-then-not-has_cycles

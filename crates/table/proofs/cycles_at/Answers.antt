@@ -1,7 +1,5 @@
 use Rattle.table.specs.Table.{cycles_at}
-use borrow.Author.Tests.{not-true, not-false}
 use mathlib.Core.Path.{sym, ◌∙◌}
-use borrow.Author.Rules.{rules}
 use Rattle.table.proofs.cycles_at.Goals as goal
 
 pub returns-then-not-has_cycles : goal.returns-then-not-has_cycles

@@ -1,14 +1,11 @@
 use native.Mathlib.Nat.{sub-zero}
 use Rattle.table.proofs.Laws.{fault_not_fine, entry_next, entries_on, entries_stop, entries_over, entries_done, place_next, places_none, places_more, placed_all}
 use Rattle.words.proofs.Lists.{get_d_zeros}
-use Rattle.table.specs.Answer.{step, Placed}
 use Rattle.table.specs.Table.{entry_place}
-use Rattle.table.specs.Check.{entries_check}
-use lib.ListN.{length, length-set, replicate}
+use lib.ListN.{length-set, replicate}
 use borrow.Author.Rules.{rules}
 use native.Mathlib.Omega.{arith}
-use mathlib.Core.Path.{◌≡◌, refl, sym, ◌∙◌}
-use Prim.Native.Nat.{ℕ, ◌-◌, ◌≤◌}
+use mathlib.Core.Path.{refl, sym, ◌∙◌}
 use Rattle.table.proofs.entries.Goals as goal
 
 pub loop-k-init : goal.loop-k-init

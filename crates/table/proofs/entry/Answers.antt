@@ -1,14 +1,10 @@
 -- the head word is right
 use Rattle.table.proofs.Laws.{next_fine, next_place, step_fault, pattern_fits, head_fits, head_some, head_below, opcode_stop, cycles_stop, cycles_fit, fields_stop', conditions_rest, fields_fit}
-use Rattle.table.specs.Table.{fields_place}
-use Rattle.table.specs.Check.{fine, head_check, pattern_check, cycles_check, entry_check}
-use Rattle.table.specs.Answer.{step}
-use Rattle.table.specs.declared.Step.TheVariants.{Next}
+use Rattle.table.specs.Check.{entry_check}
 use lib.ListN.{length}
-use Prim.Native.Nat.{◌+◌, ◌≤◌}
+use Prim.Native.Nat.{◌≤◌}
 use native.Mathlib.Omega.{arith}
-use mathlib.Core.Path.{◌≡◌, ◌∙◌, sym}
-use borrow.Author.Rules.{rules}
+use mathlib.Core.Path.{◌∙◌, sym}
 use Rattle.table.proofs.entry.Goals as goal
 
 pub returns-in-Fault : goal.returns-in-Fault

@@ -4,7 +4,6 @@ use Rattle.table.specs.Check.{fine, fault, field_word, field_check}
 use Prim.Native.Nat.{ℕ}
 use mathlib.Core.Path.{◌≡◌, sym, ap, ◌∙◌}
 use borrow.Author.Tests.{lt-leb, le-leb}
-use borrow.Author.Rules.{rules}
 use Rattle.table.proofs.field.Goals as goal
 
 pub returns-then-ws-p : goal.returns-then-ws-p

@@ -2,7 +2,6 @@ use Rattle.words.proofs.Parts.{run_shifts}
 use Rattle.table.specs.Table.{field_bits}
 use Prim.Native.Nat.{ℕ, ◌-◌, ◌*◌, ◌/◌, ◌%◌, ◌^◌}
 use mathlib.Core.Path.{◌∙◌, ap₂}
-use borrow.Author.Rules.{rules}
 use Rattle.table.proofs.field_bits.Goals as goal
 
 pub returns : goal.returns

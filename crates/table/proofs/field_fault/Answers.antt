@@ -3,8 +3,7 @@ use Rattle.table.specs.Check.{field_word}
 use Rattle.table.specs.Answer.{fault_number}
 use mathlib.Core.Path.{◌≡◌, sym, ap, ◌∙◌}
 use native.Mathlib.Omega.{arith}
-use borrow.Author.Tests.{eq-eqb, ne_eqb, not-true, not-false}
-use borrow.Author.Rules.{rules}
+use borrow.Author.Tests.{eq-eqb, ne_eqb}
 use Rattle.table.proofs.field_fault.Goals as goal
 
 pub returns-then-part-eq-PLAIN : goal.returns-then-part-eq-PLAIN

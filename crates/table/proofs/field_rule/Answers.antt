@@ -1,11 +1,8 @@
 use Rattle.table.proofs.Laws.{checks}
 use Rattle.words.proofs.Parts.{part_lt}
 use Rattle.table.specs.Check.{field_rule}
-use Prim.Native.Nat.{ℕ, ◌+◌}
-use mathlib.Core.Path.{◌≡◌, ◌∙◌, sym, ap}
 use native.Mathlib.Omega.{arith}
 use borrow.Author.Tests.{lt-leb, le-leb, eq-eqb, ne_eqb}
-use borrow.Author.Rules.{rules}
 use Rattle.table.proofs.field_rule.Goals as goal
 
 pub returns-then-count-lt1 : goal.returns-then-count-lt1

@@ -1,12 +1,8 @@
 use Rattle.table.proofs.Laws.{checks, next_fine, next_place, field_fits, field_some, field_below, fields_on, fields_stop, fields_done}
-use Rattle.table.specs.Answer.{step}
-use Rattle.table.specs.Check.{fine, field_check, fields_check}
-use lib.ListN.{length}
-use borrow.Author.Tests.{lt-leb, le-leb, eq-eqb, ne_eqb}
+use borrow.Author.Tests.{eq-eqb, ne_eqb}
 use borrow.Author.Rules.{rules}
 use native.Mathlib.Omega.{arith}
-use mathlib.Core.Path.{◌≡◌, refl, sym, ap, ◌∙◌}
-use Prim.Native.Nat.{ℕ, ◌+◌, ◌*◌, ◌-◌, ◌≤◌}
+use mathlib.Core.Path.{refl, sym, ◌∙◌}
 use Rattle.table.proofs.fields.Goals as goal
 
 pub loop-left-init : goal.loop-left-init

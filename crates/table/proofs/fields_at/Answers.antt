@@ -1,7 +1,6 @@
 use Rattle.table.specs.Table.{fields_place}
 use native.Mathlib.Omega.{arith}
 use mathlib.Core.Path.{sym, ◌∙◌}
-use borrow.Author.Rules.{rules}
 use Rattle.table.proofs.fields_at.Goals as goal
 
 pub returns-then-has_cycles : goal.returns-then-has_cycles

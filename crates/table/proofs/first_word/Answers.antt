@@ -4,7 +4,6 @@ use Rattle.table.proofs.Laws.{checks, kind_yes, kind_no}
 use Rattle.table.specs.Check.{first_check}
 use Rattle.words.specs.Tests.{◌or◌}
 use borrow.Author.Tests.{lt-leb, le-leb, eq-eqb, ne_eqb}
-use borrow.Author.Rules.{rules}
 use Rattle.table.proofs.first_word.Goals as goal
 
 pub returns-then-ws-lt1 : goal.returns-then-ws-lt1

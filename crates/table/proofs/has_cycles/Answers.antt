@@ -3,7 +3,6 @@ use Rattle.words.proofs.Parts.{part_of}
 use lib.Dec.{eqb}
 use mathlib.Core.Path.{ap}
 use Prim.Native.Nat.{ℕ}
-use borrow.Author.Rules.{rules}
 use Rattle.table.proofs.has_cycles.Goals as goal
 
 pub returns : goal.returns

@@ -2,7 +2,6 @@ use native.Mathlib.Omega.{arith}
 use Rattle.table.proofs.Laws.{checks}
 use Rattle.table.specs.Check.{head_check}
 use borrow.Author.Tests.{lt-leb, le-leb, eq-eqb, ne_eqb}
-use borrow.Author.Rules.{rules}
 use Rattle.table.proofs.head.Goals as goal
 
 pub returns-then-ws-p : goal.returns-then-ws-p

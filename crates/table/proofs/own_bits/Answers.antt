@@ -1,7 +1,6 @@
 use Rattle.words.proofs.Parts.{run_whole}
 use native.Mathlib.Omega.{arith}
 use mathlib.Core.Path.{◌∙◌}
-use borrow.Author.Rules.{rules}
 use Rattle.table.proofs.own_bits.Goals as goal
 
 pub returns : goal.returns

@@ -1,5 +1,4 @@
 use Rattle.table.proofs.Laws.{checks}
-use borrow.Author.Rules.{rules}
 use borrow.Author.Tests.{lt-leb, le-leb, eq-eqb, ne_eqb}
 use Rattle.words.specs.Words.{includes}
 use Rattle.table.specs.Check.{pattern_check}

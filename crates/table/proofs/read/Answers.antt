@@ -2,11 +2,8 @@
 use Rattle.table.proofs.Laws.{next_fine, fault_is, first_some, first_short, first_count, first_width, table_first, table_rest, refuses, refuses_places, accepts, accepts_places}
 use Rattle.table.proofs.Bounds.{first_place, entries_place}
 use Rattle.table.specs.Answer.{said}
-use Rattle.table.specs.Check.{fine, fault, first_check, entries_check, table_check}
-use Rattle.table.specs.Answer.{Reads}
 use native.Mathlib.Omega.{arith}
-use mathlib.Core.Path.{◌≡◌, ◌∙◌, sym, ap}
-use borrow.Author.Rules.{rules}
+use mathlib.Core.Path.{◌∙◌, sym, ap}
 use Rattle.table.proofs.read.Goals as goal
 
 pub overflow_cast-place : goal.overflow_cast-place

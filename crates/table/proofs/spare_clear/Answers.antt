@@ -3,7 +3,6 @@ use Rattle.table.specs.Check.{spare_clear}
 use mathlib.Core.Path.{◌≡◌}
 use native.Mathlib.Omega.{arith}
 use borrow.Author.Tests.{eq-eqb, ne_eqb}
-use borrow.Author.Rules.{rules}
 use Rattle.table.proofs.spare_clear.Goals as goal
 
 pub returns-then-part-eq2 : goal.returns-then-part-eq2

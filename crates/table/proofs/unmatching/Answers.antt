@@ -2,10 +2,7 @@ use native.Mathlib.Nat.{add_assoc}
 use Rattle.table.proofs.Laws.{checks}
 use native.Mathlib.Omega.{arith}
 use Rattle.table.specs.Check.{unmatching_check}
-use Prim.Native.Nat.{ℕ}
-use mathlib.Core.Path.{◌∙◌, sym, ap}
 use borrow.Author.Tests.{lt-leb, le-leb, eq-eqb, ne_eqb}
-use borrow.Author.Rules.{rules}
 use Rattle.table.proofs.unmatching.Goals as goal
 
 pub returns-then-ws-p : goal.returns-then-ws-p

@@ -1,10 +1,5 @@
-use Prim.Native.Nat.{ℕ, ◌+◌, ◌*◌, ◌-◌, ◌≤◌}
-use mathlib.Core.Path.{◌≡◌, refl, sym, ◌∙◌}
-use native.Mathlib.Omega.{arith}
+use mathlib.Core.Path.{refl, sym, ◌∙◌}
 use borrow.Author.Rules.{rules}
-use lib.ListN.{length}
-use Rattle.table.specs.Check.{unmatchings_check}
-use Rattle.table.specs.Answer.{step}
 use Rattle.table.proofs.Laws.{unmatchings_on, unmatchings_stop, unmatching_next, unmatchings_done}
 use Rattle.table.proofs.unmatchings.Goals as goal
 

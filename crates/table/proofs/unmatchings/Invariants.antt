@@ -1,11 +1,8 @@
-use Prim.Native.Nat.{ℕ, ◌+◌, ◌*◌, ◌-◌, ◌≤◌}
-use mathlib.Core.Path.{◌≡◌, refl, sym, ◌∙◌}
-use native.Mathlib.Omega.{arith}
-use borrow.Author.Rules.{rules}
+use Prim.Native.Nat.{◌+◌, ◌*◌, ◌≤◌}
+use mathlib.Core.Path.{◌≡◌}
 use lib.ListN.{length}
 use Rattle.table.specs.Check.{unmatchings_check}
 use Rattle.table.specs.Answer.{step}
-use Rattle.table.proofs.Laws.{unmatchings_on, unmatchings_stop, unmatching_next, unmatchings_done}
 use Rattle.table.proofs.unmatchings.Given as goal
 
 abbrev pub invariant-loop-more : goal.invariant-loop-more

@@ -1,6 +1,5 @@
 use Rattle.words.proofs.Parts.{fits_all, fits_some}
 use native.Mathlib.Omega.{arith}
-use borrow.Author.Rules.{rules}
 use Rattle.words.proofs.fits.Goals as goal
 
 pub returns-then-width-gt31 : goal.returns-then-width-gt31

@@ -1,6 +1,5 @@
 use native.Mathlib.Omega.{arith}
 use Rattle.words.proofs.Parts.{part_out, part_all, part_some, one_below}
-use borrow.Author.Rules.{rules}
 use Rattle.words.proofs.part.Goals as goal
 
 pub returns-then-low-gt31 : goal.returns-then-low-gt31

@@ -1,6 +1,5 @@
 use Rattle.words.proofs.Parts.{run_out, run_all, run_some, one_below}
 use native.Mathlib.Omega.{arith}
-use borrow.Author.Rules.{rules}
 use Rattle.words.proofs.run.Goals as goal
 
 pub returns-then-low-gt31 : goal.returns-then-low-gt31

@@ -3,7 +3,6 @@ use native.Mathlib.Omega.{arith}
 use lib.ListN.{get_or-eq_default}
 use Rattle.words.specs.Bytes.{words_of}
 use Rattle.words.proofs.Bytes.{words_length}
-use borrow.Author.Rules.{rules}
 use Rattle.words.proofs.word_in.Goals as goal
 
 pub returns-else-i-bytes : goal.returns-else-i-bytes

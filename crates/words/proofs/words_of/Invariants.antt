@@ -1,13 +1,9 @@
 -- `words::words_of` meets its contract. The buffer is the words passed so far and the unchanged rest. Assumes nothing.
-use Prim.Native.Nat.{◌+◌, ◌-◌, ◌/◌, ◌≤◌}
+use Prim.Native.Nat.{◌-◌, ◌/◌, ◌≤◌}
 use mathlib.Core.List.{◌++◌}
-use mathlib.Core.Path.{◌≡◌, refl}
-use native.Mathlib.Omega.{arith}
-use lib.ListN.{length, length-set, take, drop}
-use borrow.Author.Rules.{rules}
+use mathlib.Core.Path.{◌≡◌}
+use lib.ListN.{length, take, drop}
 use Rattle.words.specs.Bytes.{words_of}
-use Rattle.words.proofs.Bytes.{words_length}
-use Rattle.words.proofs.Filling.{filled_on, filled_all}
 use Rattle.words.proofs.words_of.Given as goal
 
 abbrev pub invariant-loop-i : goal.invariant-loop-i

@@ -1,11 +1,5 @@
-use Rattle.words.specs.Tests.{all_of}
-use Rattle.table.specs.Table.{unmatching_at}
-use Rattle.cell.specs.Cell.{clashes}
-use Rattle.cell.specs.Decide.{cell}
 use Rattle.cell.proofs.Searches.{all_pattern_on, all_pattern_miss, all_pattern_end}
-use borrow.Author.Tests.{not-true, not-false}
-use mathlib.Core.Path.{◌≡◌, refl, sym, ◌∙◌}
-use Prim.Native.Nat.{◌+◌, ◌*◌, ◌<◌, ◌^◌}
+use mathlib.Core.Path.{refl, sym, ◌∙◌}
 use borrow.Author.Rules.{rules}
 use Rattle.cell.proofs.standing.all_clash.Goals as goal
 

@@ -2,11 +2,8 @@ use Rattle.words.specs.Tests.{all_of}
 use Rattle.table.specs.Table.{unmatching_at}
 use Rattle.cell.specs.Cell.{clashes}
 use Rattle.cell.specs.Decide.{cell}
-use Rattle.cell.proofs.Searches.{all_pattern_on, all_pattern_miss, all_pattern_end}
-use borrow.Author.Tests.{not-true, not-false}
-use mathlib.Core.Path.{◌≡◌, refl, sym, ◌∙◌}
+use mathlib.Core.Path.{◌≡◌}
 use Prim.Native.Nat.{◌+◌, ◌*◌, ◌<◌, ◌^◌}
-use borrow.Author.Rules.{rules}
 use Rattle.cell.proofs.standing.all_clash.Given as goal
 
 abbrev pub invariant-loop-left : goal.invariant-loop-left

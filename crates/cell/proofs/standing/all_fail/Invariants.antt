@@ -2,11 +2,8 @@ use Rattle.words.specs.Tests.{all_of}
 use Rattle.table.specs.Table.{conditions_at}
 use Rattle.cell.specs.Cell.{fails}
 use Rattle.cell.specs.Decide.{cell}
-use Rattle.cell.proofs.Searches.{all_condition_on, all_condition_miss, all_condition_end}
-use borrow.Author.Tests.{not-true, not-false}
-use mathlib.Core.Path.{◌≡◌, refl, sym, ◌∙◌}
+use mathlib.Core.Path.{◌≡◌}
 use Prim.Native.Nat.{◌+◌, ◌*◌, ◌<◌, ◌^◌}
-use borrow.Author.Rules.{rules}
 use Rattle.cell.proofs.standing.all_fail.Given as goal
 
 abbrev pub invariant-loop-left : goal.invariant-loop-left

@@ -1,10 +1,5 @@
-use Rattle.words.specs.Tests.{any_of}
-use Rattle.table.specs.Table.{conditions_at}
-use Rattle.cell.specs.Cell.{holds}
-use Rattle.cell.specs.Decide.{cell}
 use Rattle.cell.proofs.Searches.{any_condition_on, any_condition_hit, any_condition_end}
-use mathlib.Core.Path.{◌≡◌, refl, sym, ◌∙◌}
-use Prim.Native.Nat.{◌+◌, ◌*◌, ◌<◌, ◌^◌}
+use mathlib.Core.Path.{refl, sym, ◌∙◌}
 use borrow.Author.Rules.{rules}
 use Rattle.cell.proofs.standing.any_holds.Goals as goal
 

@@ -2,10 +2,8 @@ use Rattle.words.specs.Tests.{any_of}
 use Rattle.table.specs.Table.{conditions_at}
 use Rattle.cell.specs.Cell.{holds}
 use Rattle.cell.specs.Decide.{cell}
-use Rattle.cell.proofs.Searches.{any_condition_on, any_condition_hit, any_condition_end}
-use mathlib.Core.Path.{◌≡◌, refl, sym, ◌∙◌}
+use mathlib.Core.Path.{◌≡◌}
 use Prim.Native.Nat.{◌+◌, ◌*◌, ◌<◌, ◌^◌}
-use borrow.Author.Rules.{rules}
 use Rattle.cell.proofs.standing.any_holds.Given as goal
 
 abbrev pub invariant-loop-left : goal.invariant-loop-left

@@ -1,10 +1,5 @@
-use Rattle.words.specs.Tests.{any_of}
-use Rattle.table.specs.Table.{unmatching_at}
-use Rattle.cell.specs.Cell.{implies}
-use Rattle.cell.specs.Decide.{cell}
 use Rattle.cell.proofs.Searches.{any_pattern_on, any_pattern_hit, any_pattern_end}
-use mathlib.Core.Path.{◌≡◌, refl, sym, ◌∙◌}
-use Prim.Native.Nat.{◌+◌, ◌*◌, ◌<◌, ◌^◌}
+use mathlib.Core.Path.{refl, sym, ◌∙◌}
 use borrow.Author.Rules.{rules}
 use Rattle.cell.proofs.standing.any_implied.Goals as goal
 

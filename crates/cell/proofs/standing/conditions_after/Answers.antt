@@ -3,7 +3,6 @@ use Rattle.table.specs.Table.{conditions_at, condition_end}
 use native.Mathlib.Omega.{arith}
 use mathlib.Core.Path.{◌≡◌, ap}
 use Prim.Native.Nat.{◌+◌, ◌*◌}
-use borrow.Author.Rules.{rules}
 use Rattle.cell.proofs.standing.conditions_after.Goals as goal
 
 pub returns-then-n-lt1 : goal.returns-then-n-lt1

@@ -2,7 +2,6 @@ use Rattle.cell.proofs.Searches.{none_left}
 use Rattle.table.specs.Table.{conditions_at}
 use native.Mathlib.Omega.{arith}
 use mathlib.Core.Path.{ap}
-use borrow.Author.Rules.{rules}
 use Rattle.cell.proofs.standing.conditions_from.Goals as goal
 
 pub returns-then-n-lt1 : goal.returns-then-n-lt1

@@ -1,6 +1,5 @@
 use Rattle.cell.proofs.Parts.{fails_yes, fails_rest}
 use mathlib.Core.Path.{sym, ◌∙◌}
-use borrow.Author.Rules.{rules}
 use Rattle.cell.proofs.standing.fails.Goals as goal
 
 pub returns-then-is_clash : goal.returns-then-is_clash

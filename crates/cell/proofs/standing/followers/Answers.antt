@@ -1,6 +1,5 @@
 use Rattle.words.proofs.Parts.{part_lt}
 use native.Mathlib.Omega.{arith}
-use borrow.Author.Rules.{rules}
 use Rattle.cell.proofs.standing.followers.Goals as goal
 
 pub returns : goal.returns

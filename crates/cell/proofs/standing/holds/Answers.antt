@@ -1,7 +1,5 @@
 use Rattle.cell.proofs.Parts.{holds_no, holds_rest}
 use mathlib.Core.Path.{sym, ◌∙◌}
-use borrow.Author.Tests.{not-true, not-false}
-use borrow.Author.Rules.{rules}
 use Rattle.cell.proofs.standing.holds.Goals as goal
 
 pub returns-then-not-is_implied : goal.returns-then-not-is_implied

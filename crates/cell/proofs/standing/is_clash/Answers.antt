@@ -1,5 +1,4 @@
 use Rattle.cell.specs.Cell.{clashes}
-use borrow.Author.Rules.{rules}
 use Rattle.cell.proofs.standing.is_clash.Goals as goal
 
 pub returns : goal.returns

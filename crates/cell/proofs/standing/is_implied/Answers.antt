@@ -3,7 +3,6 @@ use Rattle.words.specs.Tests.{◌and◌}
 use Rattle.words.specs.Words.{includes}
 use Rattle.choice.specs.Rule.{matches}
 use Rattle.cell.specs.Cell.{implies}
-use borrow.Author.Rules.{rules}
 use Rattle.cell.proofs.standing.is_implied.Goals as goal
 
 pub returns-then-fixed-mask : goal.returns-then-fixed-mask

@@ -1,7 +1,5 @@
 use Rattle.cell.proofs.Parts.{clash_dead, holds_dead, not_implied_open, all_fail_sure, not_fail_open}
 use mathlib.Core.Path.{sym, ◌∙◌}
-use borrow.Author.Tests.{not-true, not-false}
-use borrow.Author.Rules.{rules}
 use Rattle.cell.proofs.standing.status_at.Goals as goal
 
 pub returns-then-is_clash : goal.returns-then-is_clash

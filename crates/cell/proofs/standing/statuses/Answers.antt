@@ -1,12 +1,7 @@
-use Rattle.choice.specs.Status.{code_of, Stated}
-use Rattle.choice.specs.Judged.{entry_placed}
+use Rattle.choice.specs.Status.{Stated}
 use Rattle.choice.proofs.Placed.{filled_more}
-use Rattle.cell.specs.Decide.{cell, status_of}
-use lib.ListN.{length, get_or}
 use borrow.Author.Count.{below_none}
 use native.Mathlib.Omega.{arith}
-use mathlib.Core.Path.{◌≡◌}
-use Prim.Native.Nat.{ℕ, ◌≤◌, ◌<◌, ◌-◌}
 use borrow.Author.Rules.{rules}
 use Rattle.cell.proofs.standing.statuses.Goals as goal
 

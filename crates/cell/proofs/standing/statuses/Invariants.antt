@@ -1,13 +1,9 @@
-use Rattle.choice.specs.Status.{code_of, Stated}
+use Rattle.choice.specs.Status.{code_of}
 use Rattle.choice.specs.Judged.{entry_placed}
-use Rattle.choice.proofs.Placed.{filled_more}
 use Rattle.cell.specs.Decide.{cell, status_of}
 use lib.ListN.{length, get_or}
-use borrow.Author.Count.{below_none}
-use native.Mathlib.Omega.{arith}
 use mathlib.Core.Path.{◌≡◌}
 use Prim.Native.Nat.{ℕ, ◌≤◌, ◌<◌, ◌-◌}
-use borrow.Author.Rules.{rules}
 use Rattle.cell.proofs.standing.statuses.Given as goal
 
 abbrev pub invariant-loop-j : goal.invariant-loop-j

@@ -1,5 +1,4 @@
 use Rattle.words.specs.Tests.{◌or◌, exists}
-use Rattle.words.specs.Words.{bit}
 use Rattle.choice.specs.Status.{open_in}
 use Rattle.choice.specs.Judged.{entry_placed}
 use Rattle.cell.specs.Decide.{cell, in_some}
@@ -7,7 +6,7 @@ use Rattle.words.proofs.Bits.{bit_none, bit_or_lem}
 use Rattle.cell.proofs.Loops.{exists_more}
 use native.Mathlib.Omega.{arith}
 use mathlib.Core.Path.{◌≡◌, sym, ap, ap₂, ◌∙◌}
-use Prim.Native.Nat.{ℕ, ◌≤◌, ◌-◌}
+use Prim.Native.Nat.{ℕ}
 use borrow.Author.Rules.{rules}
 use Rattle.cell.proofs.testing.all_bits.Goals as goal
 

@@ -4,7 +4,6 @@ use Rattle.cell.proofs.Loops.{best_below}
 use Rattle.cell.specs.Decide.{cell}
 use Rattle.choice.specs.Judged.{entry_placed}
 use Rattle.choice.specs.Status.{open_in}
-use borrow.Author.Rules.{rules}
 use Rattle.cell.proofs.testing.bit_to_test.Goals as goal
 
 pub returns-then-weight-gt0 : goal.returns-then-weight-gt0

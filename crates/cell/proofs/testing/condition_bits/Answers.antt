@@ -1,10 +1,6 @@
-use Rattle.words.specs.Tests.{◌or◌, any_of}
-use Rattle.words.specs.Words.{bit}
-use Rattle.table.specs.Table.{unmatching_at, condition_at}
 use Rattle.cell.specs.Step.{in_condition}
 use Rattle.cell.proofs.Searches.{pattern_gather, pattern_gathered}
-use mathlib.Core.Path.{◌≡◌, sym, ◌∙◌}
-use Prim.Native.Nat.{ℕ, ◌+◌, ◌*◌, ◌<◌, ◌^◌}
+use mathlib.Core.Path.{sym, ◌∙◌}
 use borrow.Author.Rules.{rules}
 use Rattle.cell.proofs.testing.condition_bits.Goals as goal
 

@@ -4,7 +4,6 @@ use Rattle.cell.specs.Step.{in_open}
 use Rattle.words.proofs.Bits.{bit_none}
 use Rattle.cell.proofs.Parts.{entry_any}
 use borrow.Author.Tests.{eq-eqb, ne_eqb}
-use borrow.Author.Rules.{rules}
 use Rattle.cell.proofs.testing.entry_bits.Goals as goal
 
 pub returns-then-s-ne-OPEN : goal.returns-then-s-ne-OPEN

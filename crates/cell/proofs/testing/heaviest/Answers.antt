@@ -1,6 +1,4 @@
-use Prim.Native.Nat.{◌+◌, ◌≤◌, ◌-◌}
 use mathlib.Core.Path.{◌≡◌, sym, ap, ◌∙◌}
-use mathlib.Core.Logic.{⊎_elim}
 use native.Mathlib.Omega.{arith}
 use Rattle.cell.proofs.Loops.{best_one, best_end, best_other, best_same, weight_none}
 use Rattle.cell.specs.Decide.{weight_of}

@@ -1,11 +1,7 @@
 use Prim.Native.Nat.{◌+◌, ◌≤◌, ◌-◌}
-use mathlib.Core.Path.{◌≡◌, sym, ap, ◌∙◌}
-use mathlib.Core.Logic.{⊎_elim}
-use native.Mathlib.Omega.{arith}
-use Rattle.cell.proofs.Loops.{best_one, best_end, best_other, best_same, weight_none}
+use mathlib.Core.Path.{◌≡◌}
 use Rattle.cell.specs.Decide.{weight_of}
 use Rattle.words.specs.Tests.{best}
-use borrow.Author.Rules.{rules}
 use Rattle.cell.proofs.testing.heaviest.Given as goal
 
 abbrev pub invariant-loop-i : goal.invariant-loop-i

@@ -1,9 +1,6 @@
-use Rattle.cell.proofs.Loops.{best_zero, best_top, best_last, from_less, unfixed_le, unfixed_yes, unfixed_no}
 use Prim.Native.Nat.{ℕ, ◌≤◌, ◌<◌}
-use mathlib.Core.Path.{◌≡◌, sym, ◌∙◌}
-use native.Mathlib.Omega.{arith}
+use mathlib.Core.Path.{◌≡◌}
 use Rattle.cell.specs.Decide.{unfixed_in}
-use borrow.Author.Rules.{rules}
 use Rattle.cell.proofs.testing.highest.Given as goal
 
 abbrev pub invariant-loop-i : goal.invariant-loop-i

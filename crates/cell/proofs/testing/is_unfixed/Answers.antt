@@ -3,7 +3,6 @@ use mathlib.Core.Path.{sym, ap, ◌∙◌}
 use Rattle.words.proofs.Parts.{bit_shr}
 use Rattle.words.specs.Tests.{◌and◌}
 use borrow.Author.Tests.{eq-eqb, ne_eqb}
-use borrow.Author.Rules.{rules}
 use Rattle.cell.proofs.testing.is_unfixed.Goals as goal
 
 pub returns-then-mask-i-ne1 : goal.returns-then-mask-i-ne1

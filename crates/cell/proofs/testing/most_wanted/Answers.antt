@@ -1,12 +1,8 @@
-use Prim.Native.Nat.{◌≤◌, ◌-◌}
 use mathlib.Core.Path.{◌≡◌, refl}
-use mathlib.Core.Logic.{⊎_elim}
 use native.Mathlib.Omega.{arith}
 use borrow.Author.Tests.{eq-eqb, ne_eqb}
-use Rattle.choice.specs.Judged.{entry_placed}
-use Rattle.choice.specs.Status.{open_in}
 use Rattle.cell.proofs.Deciding.{heaviest_agree}
-use Rattle.cell.proofs.Loops.{Gathered, gathered_none, gathered_out, gathered_fixed, gathered_more, gathered_weight}
+use Rattle.cell.proofs.Loops.{gathered_none, gathered_out, gathered_fixed, gathered_more, gathered_weight}
 use borrow.Author.Rules.{rules}
 use Rattle.cell.proofs.testing.most_wanted.Goals as goal
 use Rattle.cell.proofs.testing.most_wanted.Goals.{then-s-j-eq-OPEN+then-fixed-mask, then-s-j-eq-OPEN+else-fixed-mask, else-s-j-eq-OPEN}

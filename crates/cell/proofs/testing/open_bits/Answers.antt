@@ -1,13 +1,10 @@
-use Rattle.words.specs.Tests.{◌and◌, ◌or◌, any_of}
-use Rattle.words.specs.Words.{bit}
-use Rattle.table.specs.Table.{conditions_at}
+use Rattle.words.specs.Tests.{◌and◌, ◌or◌}
 use Rattle.cell.specs.Cell.{open_condition}
 use Rattle.cell.specs.Decide.{cell}
 use Rattle.cell.specs.Step.{in_condition}
 use Rattle.words.proofs.Bits.{bit_none}
 use Rattle.cell.proofs.Searches.{condition_gather, condition_gathered}
-use mathlib.Core.Path.{◌≡◌, sym, ◌∙◌}
-use Prim.Native.Nat.{ℕ, ◌+◌, ◌*◌, ◌<◌, ◌^◌}
+use mathlib.Core.Path.{sym, ◌∙◌}
 use borrow.Author.Rules.{rules}
 use Rattle.cell.proofs.testing.open_bits.Goals as goal
 

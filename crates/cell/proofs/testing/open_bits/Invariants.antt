@@ -4,11 +4,8 @@ use Rattle.table.specs.Table.{conditions_at}
 use Rattle.cell.specs.Cell.{open_condition}
 use Rattle.cell.specs.Decide.{cell}
 use Rattle.cell.specs.Step.{in_condition}
-use Rattle.words.proofs.Bits.{bit_none}
-use Rattle.cell.proofs.Searches.{condition_gather, condition_gathered}
-use mathlib.Core.Path.{◌≡◌, sym, ◌∙◌}
+use mathlib.Core.Path.{◌≡◌}
 use Prim.Native.Nat.{ℕ, ◌+◌, ◌*◌, ◌<◌, ◌^◌}
-use borrow.Author.Rules.{rules}
 use Rattle.cell.proofs.testing.open_bits.Given as goal
 
 abbrev pub invariant-loop-left : goal.invariant-loop-left

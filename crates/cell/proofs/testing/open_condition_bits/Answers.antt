@@ -2,7 +2,6 @@ use Rattle.words.specs.Tests.{◌and◌}
 use Rattle.cell.specs.Cell.{open_condition}
 use Rattle.words.proofs.Bits.{bit_none}
 use mathlib.Core.Path.{sym, ◌∙◌}
-use borrow.Author.Rules.{rules}
 use Rattle.cell.proofs.testing.open_condition_bits.Goals as goal
 
 pub returns-then-holds : goal.returns-then-holds

@@ -4,7 +4,7 @@ use Rattle.cell.proofs.Loops.{digit_le, votes_more}
 use lib.ListN.{get_or}
 use native.Mathlib.Omega.{arith}
 use mathlib.Core.Path.{◌≡◌, refl, ap, ◌∙◌}
-use Prim.Native.Nat.{ℕ, ◌≤◌, ◌-◌}
+use Prim.Native.Nat.{ℕ}
 use borrow.Author.Rules.{rules}
 use Rattle.cell.proofs.testing.votes.Goals as goal
 

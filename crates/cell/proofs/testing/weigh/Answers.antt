@@ -2,7 +2,6 @@ use borrow.Author.Tests.{eq-eqb, ne_eqb}
 use Rattle.cell.specs.Decide.{weight_of}
 use Rattle.words.proofs.Parts.{bit_shr}
 use mathlib.Core.Path.{sym, ◌∙◌}
-use borrow.Author.Rules.{rules}
 use Rattle.cell.proofs.testing.weigh.Goals as goal
 
 pub returns-then-fixed-i-eq1 : goal.returns-then-fixed-i-eq1

@@ -1,7 +1,6 @@
 use mathlib.Core.Path.{sym, ap, ◌∙◌}
 use Rattle.words.specs.Outcome.{cause_of}
 use Rattle.image.specs.Listing.{said_step}
-use borrow.Author.Rules.{rules}
 use Rattle.image.proofs.Stepped.cause.Goals as goal
 
 pub returns-in-Item : goal.returns-in-Item

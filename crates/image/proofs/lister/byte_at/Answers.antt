@@ -1,6 +1,5 @@
 use lib.ListN.{get_or-eq_default}
 use mathlib.Core.Path.{sym}
-use borrow.Author.Rules.{rules}
 use Rattle.image.proofs.lister.byte_at.Goals as goal
 
 pub returns-then-image-i : goal.returns-then-image-i

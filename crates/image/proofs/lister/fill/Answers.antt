@@ -1,10 +1,7 @@
-use Prim.Native.Nat.{◌-◌}
 use native.Mathlib.Omega.{arith}
 use native.Mathlib.Numerals.{add-one}
 use Rattle.table.specs.Table.{table_of}
-use Rattle.image.specs.Address.{halfwords}
-use Rattle.image.proofs.Filling.{Filling, filling_start, filling_more, filling_all, filling_full, filling_last, filling_less}
-use borrow.Author.Rules.{rules}
+use Rattle.image.proofs.Filling.{filling_start, filling_more, filling_all, filling_full, filling_last, filling_less}
 use Rattle.image.proofs.lister.fill.Goals as goal
 
 -- no goal now: overflow-cast-t16

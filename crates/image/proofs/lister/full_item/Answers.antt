@@ -3,7 +3,6 @@ use Prim.Native.Nat.{ℕ}
 use Rattle.image.specs.declared.Picked.{Picked}
 use Rattle.image.specs.Items.{picked, item_of}
 use Rattle.image.proofs.Leading.{item_full}
-use borrow.Author.Rules.{rules}
 use Rattle.image.proofs.lister.full_item.Goals as goal
 
 pub returns : goal.returns

@@ -1,7 +1,6 @@
 use mathlib.Core.Path.{ap₂, ◌∙◌}
 use Prim.Native.Nat.{ℕ, ◌+◌, ◌*◌, ◌^◌}
 use Rattle.image.specs.Address.{word_at}
-use borrow.Author.Rules.{rules}
 use Rattle.image.proofs.lister.full_word.Goals as goal
 
 pub returns : goal.returns

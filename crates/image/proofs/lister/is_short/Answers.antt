@@ -1,7 +1,6 @@
 use native.Mathlib.Omega.{arith}
 use Rattle.words.proofs.Parts.{part_of}
 use Rattle.image.proofs.Picking.{place_small, size_is}
-use borrow.Author.Rules.{rules}
 use Rattle.image.proofs.lister.is_short.Goals as goal
 
 pub overflow_cast-places : goal.overflow_cast-places

@@ -1,5 +1,4 @@
 use Rattle.image.proofs.Leading.{item_nothing, item_short, item_long, item_cut}
-use borrow.Author.Rules.{rules}
 use Rattle.image.proofs.lister.item_of.Goals as goal
 
 pub returns-in-Nothing : goal.returns-in-Nothing

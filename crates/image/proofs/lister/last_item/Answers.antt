@@ -3,7 +3,6 @@ use Prim.Native.Nat.{ℕ}
 use Rattle.image.specs.declared.Picked.{Picked}
 use Rattle.image.specs.Items.{last_picked, item_of}
 use Rattle.image.proofs.Leading.{item_last}
-use borrow.Author.Rules.{rules}
 use Rattle.image.proofs.lister.last_item.Goals as goal
 
 pub returns : goal.returns

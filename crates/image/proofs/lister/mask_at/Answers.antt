@@ -1,6 +1,5 @@
 use mathlib.Core.Path.{ap, ◌∙◌}
 use Rattle.flat.specs.Walk.{walk_of, mask_or_zero}
-use borrow.Author.Rules.{rules}
 use Rattle.image.proofs.lister.mask_at.Goals as goal
 
 pub returns : goal.returns

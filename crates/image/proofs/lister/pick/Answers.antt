@@ -2,7 +2,6 @@ use mathlib.Core.Path.{ap, sym, ◌∙◌}
 use native.Mathlib.Omega.{arith}
 use Rattle.walker.specs.Walked.{said}
 use Rattle.image.proofs.Picking.{placed, picks_short, picks_long, picks_nothing, never, entry_small}
-use borrow.Author.Rules.{rules}
 use Rattle.image.proofs.lister.pick.Goals as goal
 
 pub overflow_cast-e : goal.overflow_cast-e

@@ -1,7 +1,6 @@
 use mathlib.Core.Path.{sym, ◌∙◌}
 use native.Mathlib.Omega.{arith}
 use Rattle.image.proofs.Picking.{last_placed, last_short, last_long, last_nothing, last_several}
-use borrow.Author.Rules.{rules}
 use Rattle.image.proofs.lister.pick_last.Goals as goal
 
 pub is_short-requires : goal.is_short-requires

@@ -4,7 +4,6 @@ use native.Mathlib.Omega.{arith}
 use lib.ListN.{get_or}
 use Rattle.image.specs.declared.ByteOffset.{ByteOffset}
 use Rattle.image.specs.Address.{halfword_at}
-use borrow.Author.Rules.{rules}
 use Rattle.image.proofs.lister.present_half.Goals as goal
 
 pub bounds-image-low : goal.bounds-image-low

@@ -1,7 +1,6 @@
 use Rattle.image.specs.Address.{word_at}
 use Prim.Native.Nat.{ℕ, ◌+◌, ◌*◌, ◌^◌}
 use mathlib.Core.Path.{ap₂, ◌∙◌}
-use borrow.Author.Rules.{rules}
 use Rattle.image.proofs.lister.word.Goals as goal
 
 pub returns : goal.returns

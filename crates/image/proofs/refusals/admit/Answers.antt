@@ -1,6 +1,5 @@
 use Rattle.table.proofs.Views.{reading_ready, reading_faulty}
 use Rattle.image.proofs.Admitting.{admits_faulty, admits_read}
-use borrow.Author.Rules.{rules}
 use Rattle.image.proofs.refusals.admit.Goals as goal
 
 pub first_refusal-refusal-requires : goal.first_refusal-refusal-requires

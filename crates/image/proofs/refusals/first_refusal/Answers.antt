@@ -1,7 +1,5 @@
 use Rattle.image.proofs.Admitting.{chain_table, chain_image, chain_tree, chain_ready}
 use mathlib.Core.Path.{sym, ◌∙◌}
-use borrow.Author.Tests.{not-true, not-false}
-use borrow.Author.Rules.{rules}
 use Rattle.image.proofs.refusals.first_refusal.Goals as goal
 
 pub returns-then-not-image_table : goal.returns-then-not-image_table

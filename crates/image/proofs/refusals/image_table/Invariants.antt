@@ -1,15 +1,9 @@
-use borrow.Author.Tests.{not-true, not-false}
 use Prim.Native.Nat.{◌-◌, ◌≤◌}
-use mathlib.Core.Path.{◌≡◌, refl, sym, ◌∙◌}
-use native.Mathlib.Omega.{arith}
+use mathlib.Core.Path.{◌≡◌}
 use lib.ListN.{drop}
-use Rattle.words.proofs.Parts.{part_of}
 use Rattle.words.specs.Tests.{all_of}
-use Rattle.table.proofs.Views.{ready_few, ready_place, ready_short}
 use Rattle.table.specs.Table.{entries_at}
-use Rattle.image.proofs.Admitting.{sizes_on, sizes_stop, sizes_done, width_not}
 use Rattle.image.specs.Listing.{image_size}
-use borrow.Author.Rules.{rules}
 use Rattle.image.proofs.refusals.image_table.Given as goal
 
 abbrev pub invariant-loop-k : goal.invariant-loop-k

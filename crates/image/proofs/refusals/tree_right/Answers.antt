@@ -1,7 +1,6 @@
 use Rattle.image.proofs.Admitting.{right_yes, right_no, right_faulty}
 use Rattle.checker.specs.Checker.{said}
 use mathlib.Core.Path.{ap}
-use borrow.Author.Rules.{rules}
 use Rattle.image.proofs.refusals.tree_right.Goals as goal
 
 pub returns-in-Yes : goal.returns-in-Yes

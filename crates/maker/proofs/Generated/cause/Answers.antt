@@ -1,7 +1,6 @@
 use mathlib.Core.Path.{sym, ap, ◌∙◌}
 use Rattle.words.specs.Outcome.{cause_of}
 use Rattle.maker.specs.Answers.{said_generate}
-use borrow.Author.Rules.{rules}
 use Rattle.maker.proofs.Generated.cause.Goals as goal
 
 pub returns-in-Words : goal.returns-in-Words

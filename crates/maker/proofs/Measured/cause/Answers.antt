@@ -1,7 +1,6 @@
 use mathlib.Core.Path.{sym, ap, ◌∙◌}
 use Rattle.words.specs.Outcome.{cause_of}
 use Rattle.maker.specs.Answers.{said_measure}
-use borrow.Author.Rules.{rules}
 use Rattle.maker.proofs.Measured.cause.Goals as goal
 
 pub returns-in-Tree : goal.returns-in-Tree

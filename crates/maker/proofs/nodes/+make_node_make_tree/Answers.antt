@@ -8,7 +8,6 @@ use Rattle.cell.proofs.Deciding.{bit_set}
 use Rattle.maker.proofs.Below.{below_names, below_nothing, below_conflict, below_test, test_bounds}
 use Rattle.maker.proofs.Writing.{conflict_word}
 use Rattle.maker.proofs.Makers.{no_room, leaf_made, zero_is_full, one_is_full, both_written}
-use Prim.Native.Nat.{ℕ, ◌+◌, ◌<◌}
 use Rattle.maker.proofs.nodes.+make_node_make_tree.Goals as goal
 
 pub make_node-overflow_shl-tested : goal.make_node-overflow_shl-tested

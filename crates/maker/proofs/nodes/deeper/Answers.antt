@@ -1,5 +1,4 @@
 use native.Mathlib.Omega.{arith}
-use borrow.Author.Rules.{rules}
 use Rattle.maker.proofs.nodes.deeper.Goals as goal
 
 pub returns-then-a-b : goal.returns-then-a-b

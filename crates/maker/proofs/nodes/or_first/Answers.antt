@@ -1,4 +1,3 @@
-use borrow.Author.Rules.{rules}
 use Rattle.maker.specs.Parts.{or_first}
 use Rattle.maker.proofs.nodes.or_first.Goals as goal
 

@@ -4,7 +4,6 @@ use native.Mathlib.Omega.{arith}
 use lib.Bits.{bit_or, or_shifted_r}
 use lib.Pow.{shl_exact}
 use Rattle.tree.specs.Written.{test_word}
-use borrow.Author.Rules.{rules}
 use Rattle.maker.proofs.nodes.test_word.Goals as goal
 
 pub returns : goal.returns

@@ -1,9 +1,8 @@
 -- The invariant: what is passed is zero, and the rest is as it was. Assumes nothing.
 use mathlib.Core.Path.{◌≡◌, refl, ap, ◌∙◌}
 use mathlib.Core.List.{List, ◌++◌, append-nil}
-use Prim.Native.Nat.{ℕ, ◌-◌, ◌≤◌}
+use Prim.Native.Nat.{ℕ}
 use native.Mathlib.Omega.{arith}
-use borrow.Author.Rules.{rules}
 use borrow.Author.Fill.{fill_more}
 use lib.ListN.{length, drop, set, replicate, length-set, drop_of_length-le}
 use Rattle.maker.proofs.whole.clear.Goals as goal

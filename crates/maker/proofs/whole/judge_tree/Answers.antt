@@ -1,5 +1,4 @@
 use Rattle.maker.specs.Parts.{judged_by}
-use borrow.Author.Rules.{rules}
 use Rattle.maker.proofs.whole.judge_tree.Goals as goal
 
 pub returns-in-Full : goal.returns-in-Full

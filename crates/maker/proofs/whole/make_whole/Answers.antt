@@ -1,6 +1,5 @@
 use Rattle.table.proofs.Views.{ready_few}
 use Rattle.maker.proofs.Generating.{made_judging}
-use borrow.Author.Rules.{rules}
 use Rattle.maker.proofs.whole.make_whole.Goals as goal
 
 pub judge_tree-requires : goal.judge_tree-requires

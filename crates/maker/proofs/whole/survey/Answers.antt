@@ -1,5 +1,4 @@
 use native.Mathlib.Omega.{arith}
-use borrow.Author.Rules.{rules}
 use Rattle.maker.proofs.whole.survey.Goals as goal
 
 pub overflow_sub-nodes : goal.overflow_sub-nodes

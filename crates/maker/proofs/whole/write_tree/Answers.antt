@@ -7,7 +7,6 @@ use Rattle.tree.proofs.Sizing.{counted}
 use Rattle.maker.specs.Parts.{said_judged}
 use Rattle.maker.specs.declared.Generated.TheVariants as generated
 use Rattle.maker.proofs.Generating.{cleared, stands_writes}
-use borrow.Author.Rules.{rules}
 use Rattle.maker.proofs.whole.write_tree.Goals as goal
 
 pub overflow_sub-next : goal.overflow_sub-next

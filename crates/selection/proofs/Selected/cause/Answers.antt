@@ -1,7 +1,6 @@
 use mathlib.Core.Path.{sym, ap, ◌∙◌}
 use Rattle.words.specs.Outcome.{cause_of}
 use Rattle.selection.specs.Lookup.{said}
-use borrow.Author.Rules.{rules}
 use Rattle.selection.proofs.Selected.cause.Goals as goal
 
 pub returns-in-Entry : goal.returns-in-Entry

@@ -1,7 +1,6 @@
 use mathlib.Core.Path.{sym, ap, ◌∙◌}
 use Rattle.words.specs.Outcome.{cause_of}
 use Rattle.table.specs.Answer.{said}
-use borrow.Author.Rules.{rules}
 use Rattle.table.proofs.Answer.cause.Goals as goal
 
 pub returns-in-Accepted : goal.returns-in-Accepted
