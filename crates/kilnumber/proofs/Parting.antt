@@ -21,7 +21,7 @@ use Rattle.kilnumber.specs.Packed.{packed}
 
 -- "entry in 7–0, bit 8 for nothing, count in 31–16, number in 39–32 (0 if none), place in 63–48, the rest zero"
 pub record Parts (entry nothing count number place r : ℕ) : Type 0 where
-  pub entry_in_lem : bits 7 0 r ≡ entry
+  pub entry_in : bits 7 0 r ≡ entry
   pub nothing_in : bits 8 8 r ≡ nothing
   pub rest_low : bits 15 9 r ≡ 0
   pub count_in : bits 31 16 r ≡ count
