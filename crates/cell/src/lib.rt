@@ -19,7 +19,7 @@ struct Weighed {
 }
 
 // What to do with a cell: a leaf, or a bit to test.
-#[derive(Drop)]
+#[derive(Clone, Copy)]
 pub enum Decision {
     Names(u8),
     Nothing,

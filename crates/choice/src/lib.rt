@@ -15,7 +15,7 @@ pub const SURE: u8 = 1;
 pub const OPEN: u8 = 2;
 
 // What the statuses settle: an entry, by step 1; nothing, by step 2; or neither.
-#[derive(Drop)]
+#[derive(Clone, Copy)]
 pub enum Verdict {
     Names(usize),
     Nothing,

@@ -5,14 +5,14 @@ ghost use Rattle.std.specs.Prelude.{◌≡◌, ℕ, ◌+◌, ◌≤◌, ◌<◌}
 ghost use Rattle.flat.specs.Nodes.{header_rest, header_of, test_node, names_node, nothing_node, node_of, HeaderBounds, NodeBounds};
 
 // A tree's header: its width and its number of nodes.
-#[derive(Drop)]
+#[derive(Clone, Copy)]
 pub enum Header {
     Bad,
     Good(u32, u32),
 }
 
 // A node of a tree in its written form: a test of a bit, with the one side's index; an entry; nothing.
-#[derive(Drop)]
+#[derive(Clone, Copy)]
 pub enum Node {
     Damaged,
     Asks(u32, u32),

@@ -180,7 +180,7 @@ fn step_at(image: &[u8], at: HalfwordAddress, table: &[u32], tree: &[u32]) -> St
 }
 
 // A cursor over an image: its slice and an address.
-#[derive(Drop)]
+#[derive(Clone, Copy)]
 pub struct Cursor<'a> {
     pub image: &'a [u8],
     pub at: HalfwordAddress,

@@ -53,7 +53,7 @@ fn judge(field: u32) -> Judged
 // ---- whole numbers
 
 // A whole number by its side of zero: size, or -1 - size where it is below.
-#[derive(Drop)]
+#[derive(Clone, Copy)]
 pub struct Side {
     pub below: bool,
     pub size: u64,

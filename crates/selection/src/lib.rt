@@ -127,7 +127,7 @@ impl Selected {
 }
 
 // The answer, and the place of the selected entry, or 0.
-#[derive(Drop)]
+#[derive(Clone, Copy)]
 pub struct Found {
     pub answer: Selected,
     pub place: u32,

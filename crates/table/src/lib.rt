@@ -448,7 +448,7 @@ impl Answer {
 }
 
 // The answer, and beside it the place of each entry of a table without fault; else zeros.
-#[derive(Drop)]
+#[derive(Clone, Copy)]
 pub struct Reading {
     pub answer: Answer,
     pub places: [u32; 256],

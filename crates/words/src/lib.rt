@@ -112,7 +112,7 @@ pub fn is_table(bytes: &[u8]) -> bool
 
 // What refuses a call, as document 01 lists it: the cause's number, and the place and the word returned with it. Zeros where there is
 // none. Each answer gives its own by `cause`, so that a number stands for a cause in one place.
-#[derive(Drop)]
+#[derive(Clone, Copy)]
 pub struct Cause {
     pub number: u32,
     pub place: u32,
