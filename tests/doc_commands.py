@@ -103,10 +103,10 @@ def crates():
 
 
 def called(crate, names):
-    """The crates whose functions or types the code of a crate uses; lines for contracts and proofs do not count."""
+    """The crates whose functions or types the code of a crate uses; lines for contracts and proofs do not count, nor what the prover is told."""
     found = set()
     for path in sorted((ROOT / "crates" / crate / "src").glob("*.rt")):
-        for line in path.read_text(encoding="utf-8").split("\n"):
+        for line in re.sub(r"#!?\[tactic\b.*?\]", "", path.read_text(encoding="utf-8"), flags=re.DOTALL).split("\n"):
             if not line.lstrip().startswith(("ghost", "//", "requires", "ensures")):
                 found.update(re.findall(r"(?<![\w:])(\w+)::", line))
     return found & names - {crate}

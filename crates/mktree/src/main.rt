@@ -3,7 +3,7 @@
 // program with its error.
 #![tactic(auto)]
 
-ghost use Rattle.std.specs.Prelude.{◌≤◌, length, IfOk};
+ghost use Rattle.std.specs.Prelude.{◌≡◌, ◌≤◌, length, IfOk, OnErr};
 
 use maker::Generated;
 use std::io;
@@ -23,7 +23,7 @@ fn print_refusal(output: &mut impl Write, cause: Cause) -> io::Result<()> {
     streams::write(output, &line[..end])
 }
 
-// Puts the line of a tree's word on a page. A page that has no room for it is written out first.
+// Puts the line of a tree's word on a page. A page that has no room for it is written out first; where that fails, the page is as it was.
 fn print_line(
     output: &mut impl Write,
     page: &mut [u8],
@@ -32,7 +32,8 @@ fn print_line(
     word: u32,
 ) -> io::Result<usize>
     requires { at ≤ length page.old }
-    ensures { IfOk result (λ end. end ≤ length page.new) }
+    ensures within { IfOk result (λ end. end ≤ length page.new) }
+    ensures failed { OnErr result (page.new ≡ page.old) }
 {
     let end = text::put_tree_line(page, at, index, word);
     if at < end {

@@ -13,7 +13,7 @@ use numbers::{SignedNumber, StoredValue, TextLength};
 use operands::{Decoding, Encoding};
 use selection::Selected;
 use std::io;
-use std::io::Write;
+use std::io::{ErrorKind, Write};
 use table::Answer;
 use walker::Walked;
 use withdrawal::Changed;
@@ -171,13 +171,22 @@ fn first_words(ws: &[u32], n: usize) -> &[u32] {
     &ws[0..end]
 }
 
-// Writes the page's first bytes. Where that fails the program ends with the error.
-fn flush(output: &mut impl Write, page: &[u8], at: usize) -> io::Result<()> {
-    streams::write(output, first_bytes(page, at))
+// Writes the page's first bytes. Where that fails the program ends with an error of that kind: what each step here gives back is small,
+// since there are many.
+fn flush(output: &mut impl Write, page: &[u8], at: usize) -> Result<(), ErrorKind> {
+    match streams::write(output, first_bytes(page, at)) {
+        Ok(()) => Ok(()),
+        Err(e) => Err(e.kind()),
+    }
 }
 
 // Puts bytes on the page; one that has no room for them is written out first.
-fn put(output: &mut impl Write, page: &mut [u8], at: usize, bytes: &[u8]) -> io::Result<usize> {
+fn put(
+    output: &mut impl Write,
+    page: &mut [u8],
+    at: usize,
+    bytes: &[u8],
+) -> Result<usize, ErrorKind> {
     let end = text::put_bytes(page, at, bytes);
     if at < end {
         return Ok(end);
@@ -187,27 +196,47 @@ fn put(output: &mut impl Write, page: &mut [u8], at: usize, bytes: &[u8]) -> io:
 }
 
 // A number in decimal.
-fn put_decimal(output: &mut impl Write, page: &mut [u8], at: usize, n: u32) -> io::Result<usize> {
+fn put_decimal(
+    output: &mut impl Write,
+    page: &mut [u8],
+    at: usize,
+    n: u32,
+) -> Result<usize, ErrorKind> {
     let mut digits = [0u8; 10];
     let end = text::put_decimal(&mut digits, 0, n);
     put(output, page, at, first_bytes(&digits, end))
 }
 
 // A word in eight digits.
-fn put_digits(output: &mut impl Write, page: &mut [u8], at: usize, w: u32) -> io::Result<usize> {
+fn put_digits(
+    output: &mut impl Write,
+    page: &mut [u8],
+    at: usize,
+    w: u32,
+) -> Result<usize, ErrorKind> {
     let mut digits = [0u8; 8];
     text::put_hex(&mut digits, 0, w);
     put(output, page, at, &digits)
 }
 
 // A space and a number, in decimal.
-fn put_number(output: &mut impl Write, page: &mut [u8], at: usize, n: u32) -> io::Result<usize> {
+fn put_number(
+    output: &mut impl Write,
+    page: &mut [u8],
+    at: usize,
+    n: u32,
+) -> Result<usize, ErrorKind> {
     let next = put(output, page, at, b" ")?;
     put_decimal(output, page, next, n)
 }
 
 // A space and a word, in eight digits.
-fn put_word(output: &mut impl Write, page: &mut [u8], at: usize, w: u32) -> io::Result<usize> {
+fn put_word(
+    output: &mut impl Write,
+    page: &mut [u8],
+    at: usize,
+    w: u32,
+) -> Result<usize, ErrorKind> {
     let next = put(output, page, at, b" ")?;
     put_digits(output, page, next, w)
 }
@@ -218,7 +247,7 @@ fn put_whole(
     page: &mut [u8],
     at: usize,
     number: i64,
-) -> io::Result<usize> {
+) -> Result<usize, ErrorKind> {
     let side = numbers::side_of(number);
     let size = side.size % 4294967296;
     if !side.below {
@@ -234,7 +263,7 @@ fn put_cause(
     page: &mut [u8],
     at: usize,
     cause: Cause,
-) -> io::Result<usize> {
+) -> Result<usize, ErrorKind> {
     let number = put_number(output, page, at, cause.number)?;
     let place = put_number(output, page, number, cause.place)?;
     put_word(output, page, place, cause.word)
@@ -246,7 +275,7 @@ fn put_buffer(
     page: &mut [u8],
     at: usize,
     words: &[u32],
-) -> io::Result<usize> {
+) -> Result<usize, ErrorKind> {
     let mut next = put(output, page, at, b" |")?;
     let mut i = 0;
     while i < words.len() {
@@ -257,7 +286,12 @@ fn put_buffer(
 }
 
 // A space and a byte, in two digits.
-fn put_byte(output: &mut impl Write, page: &mut [u8], at: usize, b: u8) -> io::Result<usize> {
+fn put_byte(
+    output: &mut impl Write,
+    page: &mut [u8],
+    at: usize,
+    b: u8,
+) -> Result<usize, ErrorKind> {
     let mut digits = [0u8; 8];
     text::put_hex(&mut digits, 0, b as u32);
     let next = put(output, page, at, b" ")?;
@@ -270,7 +304,7 @@ fn put_byte_buffer(
     page: &mut [u8],
     at: usize,
     bytes: &[u8],
-) -> io::Result<usize> {
+) -> Result<usize, ErrorKind> {
     let mut next = put(output, page, at, b" |")?;
     let mut i = 0;
     while i < bytes.len() {
@@ -286,7 +320,7 @@ fn put_stopped(
     page: &mut [u8],
     at: usize,
     index: u32,
-) -> io::Result<usize> {
+) -> Result<usize, ErrorKind> {
     let next = put(output, page, at, b"stopped")?;
     let end = put_number(output, page, next, index)?;
     put(output, page, end, b"\n")
@@ -299,7 +333,7 @@ fn put_read(
     at: usize,
     ws: &[u32],
     parts: Parts,
-) -> io::Result<usize> {
+) -> Result<usize, ErrorKind> {
     let reading = table::read(words_in(ws, parts[0]));
     let answer = reading.answer;
     let next = put_cause(output, page, at, answer.cause())?;
@@ -319,7 +353,7 @@ fn put_lookup(
     at: usize,
     ws: &[u32],
     parts: Parts,
-) -> io::Result<usize> {
+) -> Result<usize, ErrorKind> {
     let answer = selection::lookup(words_in(ws, parts[0]), number_in(ws, parts[1]));
     let next = put_cause(output, page, at, answer.cause())?;
     match answer {
@@ -335,7 +369,7 @@ fn put_generated(
     page: &mut [u8],
     at: usize,
     answer: Generated,
-) -> io::Result<usize> {
+) -> Result<usize, ErrorKind> {
     let next = put_cause(output, page, at, answer.cause())?;
     match answer {
         Generated::Words(count) => put_number(output, page, next, count),
@@ -350,7 +384,7 @@ fn put_generate(
     ws: &[u32],
     parts: Parts,
     out: &mut [u32],
-) -> io::Result<usize> {
+) -> Result<usize, ErrorKind> {
     let answer = maker::generate(words_in(ws, parts[0]), out);
     let end = put_generated(output, page, at, answer)?;
     put_buffer(output, page, end, out)
@@ -364,7 +398,7 @@ fn put_simulate(
     bytes: &[u8],
     ws: &[u32],
     parts: Parts,
-) -> io::Result<usize> {
+) -> Result<usize, ErrorKind> {
     let result = kilnumber::kilnumber_walk(bytes_in(bytes, parts[0]), number_in(ws, parts[1]));
     let next = put(output, page, at, b" 0 0 00000000")?;
     let high = put_word(output, page, next, (result >> 32) as u32)?;
@@ -377,7 +411,7 @@ fn put_decoded(
     page: &mut [u8],
     at: usize,
     answer: Decoding,
-) -> io::Result<usize> {
+) -> Result<usize, ErrorKind> {
     let next = put_cause(output, page, at, answer.cause())?;
     match answer {
         Decoding::Entry(entry, _) => put_number(output, page, next, entry),
@@ -393,7 +427,7 @@ fn put_decode(
     ws: &[u32],
     parts: Parts,
     out: &mut [u32],
-) -> io::Result<usize> {
+) -> Result<usize, ErrorKind> {
     let answer = operands::decode(words_in(ws, parts[0]), number_in(ws, parts[1]), out);
     let end = put_decoded(output, page, at, answer)?;
     put_buffer(output, page, end, out)
@@ -406,7 +440,7 @@ fn put_encode(
     at: usize,
     ws: &[u32],
     parts: Parts,
-) -> io::Result<usize> {
+) -> Result<usize, ErrorKind> {
     let entry = number_in(ws, parts[1]);
     let answer = operands::encode(words_in(ws, parts[0]), entry, words_in(ws, parts[2]));
     let next = put_cause(output, page, at, answer.cause())?;
@@ -423,7 +457,7 @@ fn put_check(
     at: usize,
     ws: &[u32],
     parts: Parts,
-) -> io::Result<usize> {
+) -> Result<usize, ErrorKind> {
     let answer = checker::check(words_in(ws, parts[0]), words_in(ws, parts[1]));
     let next = put_cause(output, page, at, answer.cause())?;
     match answer {
@@ -440,7 +474,7 @@ fn put_step(
     bytes: &[u8],
     ws: &[u32],
     parts: Parts,
-) -> io::Result<usize> {
+) -> Result<usize, ErrorKind> {
     let table = words_in(ws, parts[0]);
     let tree = words_in(ws, parts[1]);
     let address = HalfwordAddress(number_in(ws, parts[3]));
@@ -463,7 +497,7 @@ fn put_listed(
     page: &mut [u8],
     at: usize,
     answer: Listed,
-) -> io::Result<usize> {
+) -> Result<usize, ErrorKind> {
     let next = put_cause(output, page, at, answer.cause())?;
     match answer {
         Listed::Items(count) => put_number(output, page, next, count),
@@ -479,7 +513,7 @@ fn put_list(
     ws: &[u32],
     parts: Parts,
     out: &mut [u32],
-) -> io::Result<usize> {
+) -> Result<usize, ErrorKind> {
     let table = words_in(ws, parts[0]);
     let tree = words_in(ws, parts[1]);
     let answer = image::list(table, tree, bytes_in(bytes, parts[2]), out);
@@ -494,7 +528,7 @@ fn put_walk(
     at: usize,
     ws: &[u32],
     parts: Parts,
-) -> io::Result<usize> {
+) -> Result<usize, ErrorKind> {
     let answer = walker::walk(words_in(ws, parts[0]), number_in(ws, parts[1]));
     let next = put_cause(output, page, at, answer.cause())?;
     match answer {
@@ -520,7 +554,7 @@ fn put_mask(
     bytes: &[u8],
     ws: &[u32],
     parts: Parts,
-) -> io::Result<usize> {
+) -> Result<usize, ErrorKind> {
     let mask = kilnumber::kilnumber_mask(bytes_in(bytes, parts[0]), number_in(ws, parts[1]));
     let next = put(output, page, at, b" 0 0 00000000")?;
     put_word(output, page, next, mask)
@@ -533,7 +567,7 @@ fn put_measure(
     at: usize,
     ws: &[u32],
     parts: Parts,
-) -> io::Result<usize> {
+) -> Result<usize, ErrorKind> {
     let answer = maker::measure(words_in(ws, parts[0]));
     let next = put_cause(output, page, at, answer.cause())?;
     match answer {
@@ -552,7 +586,7 @@ fn put_cycles(
     at: usize,
     ws: &[u32],
     parts: Parts,
-) -> io::Result<usize> {
+) -> Result<usize, ErrorKind> {
     let answer = cost::cycles(words_in(ws, parts[0]), number_in(ws, parts[1]));
     let next = put_cause(output, page, at, answer.cause())?;
     match answer {
@@ -568,7 +602,7 @@ fn put_signed(
     at: usize,
     ws: &[u32],
     parts: Parts,
-) -> io::Result<usize> {
+) -> Result<usize, ErrorKind> {
     let answer = numbers::signed(number_in(ws, parts[0]), number_in(ws, parts[1]));
     let next = put_cause(output, page, at, answer.cause())?;
     match answer {
@@ -584,7 +618,7 @@ fn put_stored(
     at: usize,
     ws: &[u32],
     parts: Parts,
-) -> io::Result<usize> {
+) -> Result<usize, ErrorKind> {
     let answer = numbers::stored(number_in(ws, parts[0]), long_in(ws, parts[1]));
     let next = put_cause(output, page, at, answer.cause())?;
     match answer {
@@ -599,7 +633,7 @@ fn put_length(
     page: &mut [u8],
     at: usize,
     answer: TextLength,
-) -> io::Result<usize> {
+) -> Result<usize, ErrorKind> {
     let next = put_cause(output, page, at, answer.cause())?;
     match answer {
         TextLength::Length(length) => put_number(output, page, next, length),
@@ -614,7 +648,7 @@ fn put_text(
     ws: &[u32],
     parts: Parts,
     out: &mut [u8],
-) -> io::Result<usize> {
+) -> Result<usize, ErrorKind> {
     let answer = numbers::put_text(number_in(ws, parts[0]), number_in(ws, parts[1]), out);
     let end = put_length(output, page, at, answer)?;
     put_byte_buffer(output, page, end, out)
@@ -627,7 +661,7 @@ fn put_changed(
     at: usize,
     ws: &[u32],
     parts: Parts,
-) -> io::Result<usize> {
+) -> Result<usize, ErrorKind> {
     let entry = number_in(ws, parts[1]);
     let answer = withdrawal::count_changed(words_in(ws, parts[0]), entry, words_in(ws, parts[2]));
     let next = put_cause(output, page, at, answer.cause())?;
@@ -647,7 +681,7 @@ fn put_answer(
     request: Request,
     room: &mut [u32],
     byte_room: &mut [u8],
-) -> io::Result<usize> {
+) -> Result<usize, ErrorKind> {
     let number = request.number;
     let parts = request.parts;
     match number {
@@ -697,7 +731,7 @@ fn put_line(
     request: Request,
     room: &mut [u32],
     byte_room: &mut [u8],
-) -> io::Result<usize> {
+) -> Result<usize, ErrorKind> {
     let first = put_decimal(output, page, at, request.number)?;
     let end = put_answer(output, page, first, bytes, ws, request, room, byte_room)?;
     put(output, page, end, b"\n")
@@ -711,7 +745,7 @@ fn put_lines(
     ws: &[u32],
     room: &mut [u32],
     byte_room: &mut [u8],
-) -> io::Result<usize> {
+) -> Result<usize, ErrorKind> {
     if MOST_BYTES < bytes.len() {
         return put_stopped(output, page, 0, 0);
     }
@@ -757,5 +791,6 @@ fn main(rt: HostRuntime) -> io::Result<()> {
     let ws = first_words(&space, whole);
     let output = &mut rt.stdout();
     let end = put_lines(output, &mut page, asked, ws, &mut room, &mut byte_room)?;
-    flush(output, &page, end)
+    flush(output, &page, end)?;
+    Ok(())
 }
