@@ -1,7 +1,7 @@
 use Rattle.words.proofs.Parts.{part_of, part_lt}
 use Prim.Native.Nat.{◌+◌, ◌*◌, ◌<◌}
 use mathlib.Core.Path.{◌≡◌, refl, sym, ◌∙◌}
-use native.Mathlib.Omega.{arith}
+use Rattle.std.proofs.Common.{rules, arith}
 use borrow.Author.Tests.{lt-ltb, le-ltb}
 use Rattle.selection.proofs.Exclusion.{unmatching_pass, unmatching_found, unmatching_none, condition_pass, condition_found, condition_none, satisfies, fails_unmatching, fails_matching}
 use Rattle.choice.specs.Rule.{matches}
@@ -43,7 +43,7 @@ loop-unmatchings-preserved c =
     let a = c.args in
     let l = c.loop-unmatchings in
     let asked : c.matches.result ≡ matches a.word (pattern_at a.ws.now (l.unmatching + 1)) = c.matches.ensures in
-    let unmatched : c.matches.result ≡ false = c.if-matches.false in
+    let unmatched : c.matches.result ≡ false = search rules in
     (omega arith, l.invariant.1 ∙ unmatching_pass a.ws.now a.word l.unmatchings l.unmatching c.if-unmatchings-lt1.false (sym asked ∙ unmatched))
 
 pub overflow_cast-condition : goal.overflow_cast-condition
