@@ -50,7 +50,12 @@ def defines(path, name):
 
 
 def declares(path, name):
-    return re.search(rf"\b(?:fn|struct|enum|const) {re.escape(name)}\b", read(path)) is not None
+    return re.search(rf"\b(?:fn|struct|enum|trait|const) {re.escape(name)}\b", read(path)) is not None
+
+
+def handed_on(text):
+    """(module, name) for each name that a crate's root hands on from a module of its own."""
+    return [(module, name.strip()) for module, names in re.findall(r"^pub use (?:crate::)?(\w+)::\{?([\w, \n]+)\}?;", text, re.MULTILINE) for name in names.split(",")]
 
 
 def elsewhere(pattern, holds, name):
@@ -82,6 +87,8 @@ def check_code(last, token):
         raise Stale("not of the form crate::name or crate::module::name")
     crate, files = parts[0], [f"{parts[1]}.rt"] if len(parts) == 2 else ["lib.rt", "main.rt"]
     paths = [CRATES / crate / "src" / file for file in files]
+    if len(parts) == 1:
+        paths += [root.parent / f"{module}.rt" for root in paths if root.is_file() for module, handed in handed_on(read(root)) if handed == name]
     if not any(path.is_file() and declares(path, name) for path in paths):
         raise Stale(f"not in crates/{crate}/src/{' or '.join(files)}; " + elsewhere("*/src/*.rt", declares, name))
     return parts
@@ -143,13 +150,27 @@ def expanded(column, cell):
     return names
 
 
+def public_functions(root):
+    """The functions that a library hands out: free ones, methods, those that a public trait asks for, and those of a module that it hands on."""
+    text = read(root)
+    found = re.findall(r'^ *pub (?:extern "C" )?fn (\w+)', text, re.MULTILINE)
+    for trait in re.findall(r"^pub trait .*?^}", text, re.MULTILINE | re.DOTALL):
+        found += re.findall(r"\bfn (\w+)", trait)
+    for module, name in handed_on(text):
+        inside = read(root.parent / f"{module}.rt")
+        found += re.findall(rf"^pub fn ({name})\b", inside, re.MULTILINE)
+        for methods in re.findall(rf"^impl(?:<[^>]*>)? {name}\b.*?^}}", inside, re.MULTILINE | re.DOTALL):
+            found += re.findall(r"^ *pub fn (\w+)", methods, re.MULTILINE)
+    return found
+
+
 def unnamed(page):
     """Public functions of libraries and edits that no row has."""
     named = {column: {name for _, header, cells in page for head, cell in zip(header, cells) if head == column for name in expanded(column, cell)}
              for column in ("Code", "Edits")}
     found = []
     for path in sorted(CRATES.glob("*/src/lib.rt")):
-        for name in re.findall(r'^pub (?:extern "C" )?fn (\w+)', read(path), re.MULTILINE):
+        for name in public_functions(path):
             if (path.parts[-3], name) not in named["Code"]:
                 found.append(f"{PAGE}: column Code: no row has the public function {path.parts[-3]}::{name}")
     for path in sorted(CRATES.glob("*/must-fail/*.edit")):

@@ -1,16 +1,13 @@
 -- What the code decides by places and statuses is, for a table without fault, the step of its entries in the cell. Assumes nothing.
 use mathlib.Core.Path.{◌≡◌, refl, sym, ap, ap₂, ◌∙◌}
 use mathlib.Core.List.{List}
-use mathlib.Core.Bool.{Bool, true, false, not, cond}
-use Prim.Native.Nat.{ℕ, zero, suc, ◌*◌, ◌%◌, ◌^◌, ◌≤◌, ◌<◌, min}
+use mathlib.Core.Bool.{Bool, true, false, cond}
+use Prim.Native.Nat.{ℕ, zero, suc, ◌≤◌, ◌<◌, min}
 use native.Mathlib.Omega.{arith}
-use lib.Bits.{bit_or}
-use lib.Dec.{eqb}
 use borrow.Author.Tests.{eq-eqb, ne_eqb}
 use Rattle.words.specs.Tests.{all_of, ◌and◌, exists, best}
 use Rattle.words.specs.Words.{bit}
-use Rattle.words.proofs.Parts.{one_shl}
-use Rattle.words.proofs.Logic.{cases, exists_same, how_many_same}
+use Rattle.words.proofs.Logic.{cases, exists_make, exists_no, exists_same, how_many_same}
 use Rattle.table.specs.Lawful.{good_table}
 use Rattle.table.specs.Ready.{Ready}
 use Rattle.table.specs.Table.{Entry, entry_number, entries_at}
@@ -18,7 +15,16 @@ use Rattle.table.proofs.Laws.{length_entries}
 use Rattle.table.proofs.Good.{good_entries}
 use Rattle.table.proofs.Views.{ready_entries, ready_few, ready_wide}
 use Rattle.choice.specs.Rule.{names, nothing, ambiguous, judge_at, judge}
-use Rattle.choice.specs.Status.{code_of, sure_in, open_in, live_in, Stated}
+use Rattle.choice.specs.Status.{is_sure, is_open, is_live, sure_in, open_in, live_in, Stated}
+use Rattle.choice.specs.declared.Status.{Status}
+use Rattle.choice.specs.declared.Status.TheVariants.{Dead, Open}
+use Rattle.choice.specs.contracts.Status.{the_type}
+use Rattle.choice.proofs.Statuses.{open_is}
+use denote.Enum.Bare.{sameb}
+use lib.ListN.{length, get_or, take}
+use Rattle.std.specs.List.{IsAnyAnswer}
+use Rattle.std.specs.Prelude.{Option, Some, None}
+use Rattle.std.proofs.lemmas.List.{get_or-take, length-take-le}
 use Rattle.choice.specs.Judged.{entry_placed, said_verdict}
 use Rattle.choice.specs.declared.Verdict.{Verdict}
 use Rattle.choice.proofs.Judging.{judge_alike, judged_lt}
@@ -26,20 +32,19 @@ use Rattle.choice.proofs.Placed.{judge_stated, entry_here, judge_placed}
 use Rattle.cell.specs.Cell.{Cell, dead, live, sure, open_entry, implies, fails}
 use Rattle.cell.specs.Decide.{status_of, Heaviest, in_some, unfixed_in}
 use Rattle.cell.specs.Step.{end, split, in_open, votes_at, wanted_at, tested_at, settled_at, step_at, step}
-use Rattle.cell.specs.declared.Weighed.{Weighed}
 use Rattle.cell.proofs.Cells.{split_right}
 
 -- ---- the status of an entry
 module _ (c : Cell) (e : Entry) where
-  status_live : not (eqb (code_of (status_of c e)) 0) ≡ live c e
+  status_live : is_live (status_of c e) ≡ live c e
   unfolding status_of live
   status_live = cases (dead c e) (λ d. rw d) (λ d. rw d (cases (sure c e) (λ t. rw t) (λ t. rw t)))
 
-  status_sure : eqb (code_of (status_of c e)) 1 ≡ sure c e
+  status_sure : is_sure (status_of c e) ≡ sure c e
   unfolding status_of sure live ◌and◌
   status_sure = cases (dead c e) (λ d. rw d) (λ d. rw d (cases (implies c e.opcode and all_of (fails c) e.conditions) (λ t. rw t) (λ t. rw t)))
 
-  status_open : eqb (code_of (status_of c e)) 2 ≡ open_entry c e
+  status_open : is_open (status_of c e) ≡ open_entry c e
   unfolding status_of open_entry sure live ◌and◌
   status_open = cases (dead c e) (λ d. rw d) (λ d. rw d (cases (implies c e.opcode and all_of (fails c) e.conditions) (λ t. rw t) (λ t. rw t)))
 
@@ -49,16 +54,17 @@ unfolding best
 best_agree v u zero f = refl
 best_agree v u (suc n) f = rw (best_agree v u n f, f (best u n), f n)
 
-pub heaviest_agree : (v u : ℕ → ℕ) (width : ℕ) (r : Weighed) → ((i : ℕ) → v i ≡ u i) → Heaviest v width r → Heaviest u width r
-heaviest_agree v u width r f h =
-    let e : best v width ≡ best u width = best_agree v u width f in
-    record { load = h.load ∙ f _ ∙ ap u e; place = λ p. h.place p ∙ e }
+pub heaviest_agree : (v u : ℕ → ℕ) (width : ℕ) (r : Option ℕ) → ((i : ℕ) → v i ≡ u i) → Heaviest v width r → Heaviest u width r
+heaviest_agree v u width (Some b) f h = (h.0 ∙ best_agree v u width f, rw (← f b) h.1)
+heaviest_agree v u width None f h = sym (f (best u width)) ∙ ap v (sym (best_agree v u width f)) ∙ h
 
 -- ---- the code's two choices: by votes, and by what is wanted
-module _ (entry : ℕ → Entry) (isOpen : ℕ → Bool) (n width : ℕ) (c : Cell) (r : Weighed) (h : Heaviest (votes_at entry isOpen n c.fixed) width r) where
-  pub by_votes : 0 < r.weight → r.bit ≡ tested_at entry isOpen n width c
+module _ (entry : ℕ → Entry) (isOpen : ℕ → Bool) (n width : ℕ) (c : Cell) where
+  pub by_votes : (b : ℕ) → Heaviest (votes_at entry isOpen n c.fixed) width (Some b) → b ≡ tested_at entry isOpen n width c
   unfolding tested_at
-  by_votes p = rw (ne_eqb (votes_at entry isOpen n c.fixed (best (votes_at entry isOpen n c.fixed) width)) 0 (λ z. let y : r.weight ≡ 0 = h.load ∙ z in omega arith)) (h.place p)
+  by_votes b h =
+      let p : 0 < votes_at entry isOpen n c.fixed (best (votes_at entry isOpen n c.fixed) width) = rw (← h.0) h.1 in
+      rw (ne_eqb (votes_at entry isOpen n c.fixed (best (votes_at entry isOpen n c.fixed) width)) 0 (λ z. omega arith)) h.0
 
   wanted_by : (m i : ℕ) → bit m i ≡ in_some entry isOpen n c i → unfixed_in m c.fixed i ≡ wanted_at entry isOpen n c i
   unfolding unfixed_in in_some wanted_at ◌and◌
@@ -68,11 +74,11 @@ module _ (entry : ℕ → Entry) (isOpen : ℕ → Bool) (n width : ℕ) (c : Ce
       (λ t. rw t (cases (exists (λ j. isOpen j and in_open c i (entry j)) n) (λ x. rw x) (λ x. rw x)))
       (λ t. rw t (cases (exists (λ j. isOpen j and in_open c i (entry j)) n) (λ x. rw x) (λ x. rw x))))
 
-  pub by_wanted : (m d : ℕ) → r.weight ≤ 0 → ((i : ℕ) → bit m i ≡ in_some entry isOpen n c i) → d ≡ best (unfixed_in m c.fixed) width → d ≡ tested_at entry isOpen n width c
+  pub by_wanted : (m d : ℕ) → Heaviest (votes_at entry isOpen n c.fixed) width None → ((i : ℕ) → bit m i ≡ in_some entry isOpen n c i)
+      → d ≡ best (unfixed_in m c.fixed) width → d ≡ tested_at entry isOpen n width c
   unfolding tested_at
-  by_wanted m d p f g =
-      let y : r.weight ≡ 0 = omega arith in
-      rw (eq-eqb (votes_at entry isOpen n c.fixed (best (votes_at entry isOpen n c.fixed) width)) 0 (sym h.load ∙ y))
+  by_wanted m d h f g =
+      rw (eq-eqb (votes_at entry isOpen n c.fixed (best (votes_at entry isOpen n c.fixed) width)) 0 h)
       (g ∙ best_agree _ _ width (λ i. wanted_by m i (f i)))
 
 -- ---- entries and tests that agree below n
@@ -104,41 +110,55 @@ module _ (e f : ℕ → Entry) (n : ℕ) (c : Cell) (he : (j : ℕ) → j < n �
       let a : settled_at e n c ≡ settled_at f n c = judge_alike e f _ _ _ _ n he (λ j h. ap (sure c) (he j h)) (λ j h. ap (live c) (he j h)) in
       rw (a, exists_same _ _ n open_alike, tested_alike e f _ _ n c he open_alike width)
 
--- ---- the decision, from the code's array of statuses
-module _ (entry : ℕ → Entry) (n : ℕ) (c : Cell) (s : List ℕ) (st : Stated (λ j. status_of c (entry j)) n s) where
-  open_by : (j : ℕ) → j < n → open_in s j ≡ open_entry c (entry j)
-  unfolding Stated
-  open_by j h = ap (λ (x : ℕ). eqb x 2) (st j h) ∙ status_open c (entry j)
+-- ---- what the statuses settle, and whether one is open
+module _ (entry : ℕ → Entry) (n : ℕ) (c : Cell) (s : List Status) (st : (j : ℕ) → j < n → get_or s j Dead ≡ status_of c (entry j)) where
+  pub open_by : (j : ℕ) → j < n → open_in s j ≡ open_entry c (entry j)
+  open_by j h = ap is_open (st j h) ∙ status_open c (entry j)
 
-  some_open : exists (open_in s) n ≡ exists (λ j. open_entry c (entry j)) n
-  some_open = exists_same _ _ n open_by
+  -- as the code's `==` has it
+  pub open_at : (j : ℕ) → j < n → sameb the_type (get_or s j Dead) Open ≡ open_entry c (entry j)
+  open_at j h = open_is (get_or s j Dead) ∙ open_by j h
 
-  -- v is what the judge says
-  module _ (few : n ≤ 256) (v : Verdict) (is : said_verdict v ≡ judge_at entry (sure_in s) (live_in s) (min n 256)) where
-    pub settled : said_verdict v ≡ settled_at entry n c
-    unfolding settled_at
-    settled = is ∙ judge_stated entry (status_of c) n s few st (sure c) (live c) (status_sure c) (status_live c)
+  pub settled : (m : ℕ) → n ≡ min m 256 → judge_at entry (sure_in s) (live_in s) (min m 256) ≡ settled_at entry n c
+  unfolding settled_at Stated
+  settled m h =
+      let few : n ≤ 256 = omega arith in
+      let e : min m 256 ≡ min n 256 = omega arith in
+      rw e (judge_stated entry (status_of c) n s few st (sure c) (live c) (status_sure c) (status_live c))
 
-    module _ (width : ℕ) where
-      pub decide_names : (i : ℕ) → v ≡ Verdict.Names i → (end (names i) ≡ step_at entry n width c) × (i < n)
-      unfolding step_at settled_at
-      decide_names i h =
-          let t : settled_at entry n c ≡ names i = sym settled ∙ ap said_verdict h in
-          (rw t, judged_lt entry _ _ n i t)
+  module _ (long : n ≤ length s) where
+    at : (k : ℕ) → k < n → get_or (take n s) k Dead ≡ get_or s k Dead
+    at k h = get_or-take n s k Dead h
 
-      pub decide_nothing : v ≡ Verdict.Nothing → end nothing ≡ step_at entry n width c
-      unfolding step_at
-      decide_nothing h = let t : settled_at entry n c ≡ nothing = sym settled ∙ ap said_verdict h in rw t
+    -- the library's search in the first n statuses
+    pub some_open : (r : Bool) → IsAnyAnswer (λ x b. sameb the_type x Open ≡ b) (take n s) r → r ≡ exists (λ j. open_entry c (entry j)) n
+    some_open true (k, l, f) =
+        let h : k < n = omega (arith, length-take-le n s long) in
+        sym (exists_make (λ j. open_entry c (entry j)) n k h (sym (ap is_open (at k h) ∙ open_by k h) ∙ sym (open_is _) ∙ f Dead))
+    some_open false f =
+        sym (exists_no (λ j. open_entry c (entry j)) n
+        (λ j h. sym (ap is_open (at j h) ∙ open_by j h) ∙ sym (open_is _) ∙ f j Dead (omega arith) (omega (arith, length-take-le n s long))))
 
-      pub decide_conflict : v ≡ Verdict.Stuck → exists (open_in s) n ≡ false → end ambiguous ≡ step_at entry n width c
-      unfolding step_at
-      decide_conflict h o = let t : settled_at entry n c ≡ ambiguous = sym settled ∙ ap said_verdict h in rw (t, sym some_open ∙ o)
+-- ---- the decision, by what is settled
+module _ (entry : ℕ → Entry) (n : ℕ) (c : Cell) (width : ℕ) (v : Verdict) (is : said_verdict v ≡ settled_at entry n c) where
+  pub decide_names : (i : ℕ) → v ≡ Verdict.Names i → (end (names i) ≡ step_at entry n width c) × (i < n)
+  unfolding step_at settled_at
+  decide_names i h =
+      let t : settled_at entry n c ≡ names i = sym is ∙ ap said_verdict h in
+      (rw t, judged_lt entry _ _ n i t)
 
-      pub decide_test : (i : ℕ) → v ≡ Verdict.Stuck → exists (open_in s) n ≡ true → i ≡ tested_at entry (open_in s) n width c → split i ≡ step_at entry n width c
-      unfolding step_at
-      decide_test i h o q =
-          let t : settled_at entry n c ≡ ambiguous = sym settled ∙ ap said_verdict h in
-          rw (t, sym some_open ∙ o, q ∙ tested_alike entry entry _ _ n c (λ j k. refl) open_by width)
+  pub decide_nothing : v ≡ Verdict.Nothing → end nothing ≡ step_at entry n width c
+  unfolding step_at
+  decide_nothing h = let t : settled_at entry n c ≡ nothing = sym is ∙ ap said_verdict h in rw t
+
+  pub decide_conflict : v ≡ Verdict.Stuck → exists (λ j. open_entry c (entry j)) n ≡ false → end ambiguous ≡ step_at entry n width c
+  unfolding step_at
+  decide_conflict h o = let t : settled_at entry n c ≡ ambiguous = sym is ∙ ap said_verdict h in rw (t, o)
+
+  pub decide_test : (i : ℕ) → v ≡ Verdict.Stuck → exists (λ j. open_entry c (entry j)) n ≡ true
+      → i ≡ tested_at entry (λ j. open_entry c (entry j)) n width c → split i ≡ step_at entry n width c
+  unfolding step_at
+  decide_test i h o q = let t : settled_at entry n c ≡ ambiguous = sym is ∙ ap said_verdict h in rw (t, o, q)
 
 -- ---- what the two public calls say of a table without fault
 module _ (ws places : List ℕ) (width n : ℕ) (ready : Ready ws places width n) where
@@ -169,7 +189,3 @@ module _ (ws places : List ℕ) (width n : ℕ) (ready : Ready ws places width n
     -- a tested bit is below the width and unfixed
     pub test_ready : (i : ℕ) → step_at (entry_placed ws places) (min n 256) (min width 32) c ≡ split i → (i < width) × (bit c.fixed i ≡ false)
     test_ready i e = split_right _ width ready_good c i (sym step_ready ∙ e)
-
-  -- a tested bit, as the code shifts it, set in a word of the cell
-  pub bit_set : (x b : ℕ) → b < width → bit_or x ((1 * 2 ^ b) % 2 ^ 32) ≡ bit_or x (2 ^ b)
-  bit_set x b h = ap (bit_or x) (one_shl b (omega (arith, ready_wide ws places width n ready)))

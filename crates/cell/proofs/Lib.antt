@@ -1,5 +1,5 @@
 pub mod Cells
-pub mod Searches
-pub mod Parts
+pub mod Sides
+pub mod Walks
 pub mod Loops
 pub mod Deciding

@@ -7,17 +7,19 @@ use native.Mathlib.Omega.{arith}
 use native.Mathlib.Nat.{zero-lt-suc}
 use native.Mathlib.Numerals.{add-one, sub-one}
 use borrow.Author.Tests.{lt-leb, le-leb, eqb-true, eqb-false}
-use lib.Bits.{bit_and, and_mask}
+use lib.Bits.{bit_and, bit_or, and_mask}
 use lib.Dec.{leb, eqb}
-use lib.ListN.{length, get_or, set, length-set}
+use lib.ListN.{length, get_or, set, take, length-set}
+use Rattle.std.proofs.lemmas.List.{get_or-take, length-take-le}
 use lib.Seq.{get_or-set_same, get_or-set_other}
 use Rattle.words.specs.Tests.{◌and◌, ◌or◌, exists, how_many, best}
 use Rattle.words.specs.Words.{bit}
 use Rattle.table.specs.Table.{Entry}
-use Rattle.cell.specs.Step.{votes_at}
-use Rattle.cell.specs.Decide.{votes_for, weight_of, unfixed_in}
+use Rattle.cell.specs.Cell.{Cell}
+use Rattle.cell.specs.Step.{votes_at, in_open}
+use Rattle.cell.specs.Decide.{votes_for, weight_of, unfixed_in, in_some}
 use Rattle.words.proofs.Logic.{cases, clash, is_false, and_l, and_r, below_suc, how_many_same, best_lt}
-use Rattle.words.proofs.Bits.{bit_and_lem}
+use Rattle.words.proofs.Bits.{bit_and_lem, bit_none, bit_or_lem}
 
 -- one number more to search
 pub exists_more : (p : ℕ → Bool) (n : ℕ) → exists p (n + 1) ≡ exists p n or p n
@@ -39,8 +41,9 @@ digit x i =
 pub digit_le : (x i : ℕ) → bit_and (x / 2 ^ i) 1 ≤ 1
 digit_le x i = rw (digit x i) (cases (bit x i) (λ t. rw t (omega arith)) (λ t. rw t (omega arith)))
 
-pub votes_more : (masks : List ℕ) (j i : ℕ) → votes_for masks (j + 1) i ≡ votes_for masks j i + bit_and (get_or masks j 0 / 2 ^ i) 1
-unfolding votes_for how_many
+pub votes_more : (masks : List ℕ) (j i : ℕ)
+    → how_many (λ k. bit (get_or masks k 0) i) (j + 1) ≡ how_many (λ k. bit (get_or masks k 0) i) j + bit_and (get_or masks j 0 / 2 ^ i) 1
+unfolding how_many
 votes_more masks j i =
     rw (add-one j, digit (get_or masks j 0) i)
     (cases (bit (get_or masks j 0) i) (λ t. rw t (omega arith)) (λ t. rw t (omega arith)))
@@ -83,15 +86,11 @@ best_top v (suc n) i h f t z =
     let e : leb (v (best v n)) (v n) ≡ false = lt-leb (v (best v n)) (v n) (let a : v (best v n) ≡ 1 = ap v (sym b) ∙ t in let d : v n ≡ 0 = z n l (omega arith) in omega arith) in
     rw e b)
 
-pub best_zero : (v : ℕ → ℕ) (n : ℕ) → n ≤ 0 → 0 ≡ best v n
+-- of none it is 0
+pub best_last : (v : ℕ → ℕ) (n : ℕ) → ((j : ℕ) → j < n → v j ≡ 0) → n - 1 ≡ best v n
 unfolding best
-best_zero v zero h = refl
-best_zero v (suc n) h = absurd (omega arith)
-
-pub best_last : (v : ℕ → ℕ) (n : ℕ) → 0 < n → ((j : ℕ) → j < n → v j ≡ 0) → n - 1 ≡ best v n
-unfolding best
-best_last v zero h z = absurd (omega arith)
-best_last v (suc n) h z =
+best_last v zero z = refl
+best_last v (suc n) z =
     let b = best_below v n (suc n) (zero-lt-suc n) (omega arith) in
     let e : leb (v (best v n)) (v n) ≡ true = le-leb (v (best v n)) (v n) (let a : v (best v n) ≡ 0 = z (best v n) b in omega arith) in
     rw (sub-one (suc n), e)
@@ -116,16 +115,17 @@ module _ (mask fixed i : ℕ) where
   unfixed_no t = rw t
 
 -- no masks have no weight
-pub weight_none : (masks : List ℕ) (n fixed i : ℕ) → n < 1 → weight_of masks n fixed i ≡ 0
+pub weight_none : (masks : List ℕ) (fixed i : ℕ) → length masks < 1 → weight_of masks fixed i ≡ 0
 unfolding weight_of votes_for how_many
-weight_none masks zero fixed i h = cases (bit fixed i) (λ t. rw t) (λ t. rw t)
-weight_none masks (suc n) fixed i h = absurd (omega arith)
+weight_none masks fixed i h =
+    let z : length masks ≡ 0 = omega arith in
+    rw z (cases (bit fixed i) (λ t. rw t) (λ t. rw t))
 
 -- ---- the masks of open entries that have an unfixed bit, gathered in the first places of an array: n of the first j entries
 pub record Gathered (isOpen : ℕ → Bool) (mask : ℕ → ℕ) (fixed : ℕ) (masks : List ℕ) (n j : ℕ) : Type 0 where
   pub few : n ≤ j
   pub long : length masks ≡ 256
-  pub count : (i : ℕ) → bit fixed i ≡ false → votes_for masks n i ≡ how_many (λ k. isOpen k and bit (mask k) i) j
+  pub count : (i : ℕ) → bit fixed i ≡ false → how_many (λ k. bit (get_or masks k 0) i) n ≡ how_many (λ k. isOpen k and bit (mask k) i) j
 
 module _ (isOpen : ℕ → Bool) (mask : ℕ → ℕ) (fixed : ℕ) (masks : List ℕ) (n j : ℕ) (g : Gathered isOpen mask fixed masks n j) where
   passed : (i : ℕ) → isOpen j and bit (mask j) i ≡ false → how_many (λ k. isOpen k and bit (mask k) i) (j + 1) ≡ how_many (λ k. isOpen k and bit (mask k) i) j
@@ -146,8 +146,8 @@ module _ (isOpen : ℕ → Bool) (mask : ℕ → ℕ) (fixed : ℕ) (masks : Lis
 
   -- it has one more mask
   pushed : (i : ℕ) → n < 256 → isOpen j ≡ true → bit fixed i ≡ false
-      → votes_for (set masks n (mask j)) (n + 1) i ≡ how_many (λ k. isOpen k and bit (mask k) i) (j + 1)
-  unfolding votes_for how_many ◌and◌
+      → how_many (λ k. bit (get_or (set masks n (mask j)) k 0) i) (n + 1) ≡ how_many (λ k. isOpen k and bit (mask k) i) (j + 1)
+  unfolding how_many ◌and◌
   pushed i room o u =
       let a : get_or (set masks n (mask j)) n 0 ≡ mask j = get_or-set_same masks n (mask j) 0 (rw g.long room) in
       let b : how_many (λ k. bit (get_or (set masks n (mask j)) k 0) i) n ≡ how_many (λ k. isOpen k and bit (mask k) i) j
@@ -160,11 +160,34 @@ module _ (isOpen : ℕ → Bool) (mask : ℕ → ℕ) (fixed : ℕ) (masks : Lis
       record { few = omega arith; long = length-set masks n (mask j) ∙ g.long; count = λ i u. pushed i (omega arith) o u }
 
 pub gathered_none : (isOpen : ℕ → Bool) (mask : ℕ → ℕ) (fixed : ℕ) (masks : List ℕ) → length masks ≡ 256 → Gathered isOpen mask fixed masks 0 0
-unfolding votes_for how_many
+unfolding how_many
 gathered_none isOpen mask fixed masks l = record { few = omega arith; long = l; count = λ i u. refl }
 
--- the weights of the masks are the votes of the entries
+-- the weights of the masks that were gathered are the votes of the entries
 pub gathered_weight : (entry : ℕ → Entry) (isOpen : ℕ → Bool) (fixed : ℕ) (masks : List ℕ) (n j : ℕ) → Gathered isOpen (λ k. (entry k).opcode.mask) fixed masks n j
-    → (i : ℕ) → weight_of masks n fixed i ≡ votes_at entry isOpen j fixed i
-unfolding weight_of votes_at
-gathered_weight entry isOpen fixed masks n j g i = cases (bit fixed i) (λ t. rw t) (λ t. rw t (g.count i t))
+    → j ≤ 256 → (i : ℕ) → weight_of (take n masks) fixed i ≡ votes_at entry isOpen j fixed i
+unfolding weight_of votes_for votes_at
+gathered_weight entry isOpen fixed masks n j g h i =
+    let f = g.few in
+    let l = g.long in
+    cases (bit fixed i) (λ t. rw t)
+    (λ t. rw (t, length-take-le n masks (omega arith)) (how_many_same _ _ n (λ k m. ap (λ (x : ℕ). bit x i) (get_or-take n masks k 0 m)) ∙ g.count i t))
+
+or_none : (b : Bool) → b ≡ b or false
+unfolding ◌or◌
+or_none true = refl
+or_none false = refl
+
+-- ---- the bits in some open entry, gathered from the first n
+module _ (entry : ℕ → Entry) (isOpen : ℕ → Bool) (c : Cell) (i : ℕ) where
+  pub some_none : bit 0 i ≡ in_some entry isOpen 0 c i
+  unfolding in_some exists
+  some_none = bit_none i
+
+  pub some_more : (a x n : ℕ) → bit a i ≡ in_some entry isOpen n c i → isOpen n ≡ true → bit x i ≡ in_open c i (entry n) → bit (bit_or a x) i ≡ in_some entry isOpen (n + 1) c i
+  unfolding in_some ◌and◌
+  some_more a x n g o e = bit_or_lem a x i ∙ rw (exists_more (λ j. isOpen j and in_open c i (entry j)) n, g, o, e)
+
+  pub some_same : (a n : ℕ) → bit a i ≡ in_some entry isOpen n c i → isOpen n ≡ false → bit a i ≡ in_some entry isOpen (n + 1) c i
+  unfolding in_some ◌and◌ ◌or◌
+  some_same a n g o = g ∙ rw (exists_more (λ j. isOpen j and in_open c i (entry j)) n, o) (or_none _)

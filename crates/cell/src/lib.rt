@@ -1,25 +1,57 @@
 // The decision in a cell: what each entry is there, what that settles, and if nothing, which bit to test.
 #![tactic(auto)]
 
-ghost use Rattle.std.specs.Prelude.{◌≡◌, min};
-ghost use Rattle.choice.specs.Judged.{entry_placed, said_verdict};
+ghost use Rattle.std.specs.Prelude.{◌≡◌, ◌<◌, min};
+ghost use Rattle.choice.specs.Judged.{entry_of, said_verdict};
+ghost use Rattle.cell.specs.Cell.{zero_side, one_side};
 ghost use Rattle.cell.specs.Step.{settled_at, step_at};
-ghost use Rattle.cell.specs.Decide.{cell, said_decision};
+ghost use Rattle.cell.specs.Decide.{cell_of, said_decision};
 
-use choice::Verdict;
+use choice::{Status, Verdict};
+use standing::Standing;
+use table::Entries;
 
+mod items;
 mod standing;
 mod testing;
+mod walking;
 
-// A bit, and how many want it.
-#[derive(Drop)]
-struct Weighed {
-    pub bit: u32,
-    pub weight: u32,
+// A cell: the bits that it fixes, as a mask, and their values.
+#[derive(Clone, Copy, PartialEq, Eq)]
+pub struct Cell {
+    pub fixed: u32,
+    pub bits: u32,
+}
+
+impl Cell {
+    // The cell of every word.
+    pub const START: Cell = Cell { fixed: 0, bits: 0 };
+
+    // The cell with the bit 0 as well.
+    pub fn zero_side(self, bit: u32) -> Cell
+        ensures { bit < 32 → cell_of result ≡ zero_side (cell_of self) bit }
+    {
+        Cell {
+            fixed: self.fixed | words::run(bit, 1),
+            bits: self.bits,
+        }
+    }
+
+    // The cell with the bit 1 as well.
+    pub fn one_side(self, bit: u32) -> Cell
+        ensures { bit < 32 → cell_of result ≡ one_side (cell_of self) bit }
+    {
+        let one = words::run(bit, 1);
+        Cell {
+            fixed: self.fixed | one,
+            bits: self.bits | one,
+        }
+    }
 }
 
 // What to do with a cell: a leaf, or a bit to test.
-#[derive(Clone, Copy)]
+// kept: the cases of the definition's Step, one for one
+#[derive(Clone, Copy, PartialEq, Eq)]
 pub enum Decision {
     Names(u8),
     Nothing,
@@ -27,40 +59,30 @@ pub enum Decision {
     Test(u8),
 }
 
-// What steps 1 and 2 settle of the cell, for the entries at these places.
-pub fn settle(table: &[u32], places: &[u32; 256], count: usize, fixed: u32, bits: u32) -> Verdict
-    ensures { said_verdict result ≡ settled_at (entry_placed table.now places.now) (min count 256) (cell fixed bits) }
+// What steps 1 and 2 settle of the cell.
+pub fn settle(entries: &Entries, cell: Cell) -> Verdict
+    ensures { said_verdict result ≡ settled_at (entry_of entries.now) (min entries.now.count 256) (cell_of cell) }
 {
-    let n = words::lesser(count, 256);
-    let mut s = [choice::DEAD; 256];
-    standing::statuses(table, places, n, fixed, bits, &mut s);
-    choice::judge(table, places, &s, n)
+    // kept: fixed memory
+    let mut statuses = [Status::Dead; 256];
+    Standing::of(entries, cell, &mut statuses).verdict()
 }
 
-// What to do with the cell, for the entries at these places.
-pub fn decide(
-    table: &[u32],
-    places: &[u32; 256],
-    count: usize,
-    width: u32,
-    fixed: u32,
-    bits: u32,
-) -> Decision
-    ensures { said_decision result ≡ step_at (entry_placed table.now places.now) (min count 256) (min width 32) (cell fixed bits) }
+// What to do with the cell.
+pub fn decide(entries: &Entries, width: u32, cell: Cell) -> Decision
+    ensures { said_decision result ≡ step_at (entry_of entries.now) (min entries.now.count 256) (min width 32) (cell_of cell) }
 {
-    let n = words::lesser(count, 256);
-    let mut s = [choice::DEAD; 256];
-    standing::statuses(table, places, n, fixed, bits, &mut s);
-    let verdict = choice::judge(table, places, &s, n);
-    match verdict {
+    // kept: each case of the verdict is another decision, two of them by a question more
+    let mut statuses = [Status::Dead; 256];
+    let standing = Standing::of(entries, cell, &mut statuses);
+    match standing.verdict() {
         Verdict::Names(i) => Decision::Names(i as u8),
         Verdict::Nothing => Decision::Nothing,
         Verdict::Stuck => {
-            if !testing::any_open(&s, n) {
+            if !standing.any_open() {
                 return Decision::Conflict;
             }
-            let top = words::lesser(width as usize, 32) as u32;
-            let tested = testing::bit_to_test(table, places, &s, n, top, fixed, bits);
+            let tested = standing.bit_to_test(width.min(32));
             Decision::Test(tested as u8)
         }
     }

@@ -1,200 +1,113 @@
 // What patterns, conditions and entries are in a cell.
-ghost use Rattle.std.specs.Prelude.{◌≡◌, ◌+◌, ◌*◌, ◌≤◌, ◌<◌, ◌^◌, length};
+ghost use Rattle.std.specs.Prelude.{◌≡◌, ◌<◌, ℕ, min, length, get_or};
 ghost use Rattle.words.specs.Tests.{any_of, all_of};
-ghost use Rattle.table.specs.Table.{pattern_at, unmatching_at, condition_at, conditions_at, condition_end, conditions_place, entry_at, unmatching_of};
-ghost use Rattle.cell.specs.Cell.{implies, clashes, holds as holds_in, fails as fails_in};
-ghost use Rattle.choice.specs.Status.{code_of, Stated};
-ghost use Rattle.choice.specs.Judged.{entry_placed};
-ghost use Rattle.cell.specs.Decide.{cell, status_of};
+ghost use Rattle.table.specs.Table.{entry_at};
+ghost use Rattle.cell.specs.Cell.{implies, clashes, holds, fails};
+ghost use Rattle.cell.specs.Items.{pattern_of, condition_of, conditions_left};
+ghost use Rattle.choice.specs.Judged.{entry_of};
+ghost use Rattle.choice.specs.declared.Status.TheVariants.{Dead};
+ghost use Rattle.cell.specs.Decide.{cell_of, status_of};
 
-// Bits 3 to 0 of a head word: how many conditions, or unmatching patterns, follow.
-pub fn followers(head: u32) -> usize
-    ensures { (result ≡ unmatching_of head) × (result ≤ 15) }
-{
-    words::part(head, 0, 4) as usize
-}
+use crate::Cell;
+use crate::items::{Condition, Conditions, Pattern};
+use choice::Status;
+use table::Entries;
 
-// Whether the cell implies the pattern at p.
-fn is_implied(table: &[u32], p: usize, fixed: u32, bits: u32) -> bool
-    requires { p < 2 ^ 63 }
-    ensures { result ≡ implies (cell fixed bits) (pattern_at table.now p) }
-{
-    let mask = words::word_at(table, p);
-    if fixed & mask != mask {
-        return false;
+impl Cell {
+    // Whether it implies the pattern.
+    pub(crate) fn implies(self, p: Pattern) -> bool
+        ensures { result ≡ implies (cell_of self) (pattern_of p.entry) }
+    {
+        let mask = p.mask();
+        self.fixed & mask == mask && self.bits & mask == p.value()
     }
-    bits & mask == words::word_at(table, p + 1)
-}
 
-// Whether the cell clashes with the pattern at p.
-fn is_clash(table: &[u32], p: usize, fixed: u32, bits: u32) -> bool
-    requires { p < 2 ^ 63 }
-    ensures { result ≡ clashes (cell fixed bits) (pattern_at table.now p) }
-{
-    let common = fixed & words::word_at(table, p);
-    bits & common != words::word_at(table, p + 1) & common
-}
+    // Whether it clashes with the pattern.
+    pub(crate) fn clashes(self, p: Pattern) -> bool
+        ensures { result ≡ clashes (cell_of self) (pattern_of p.entry) }
+    {
+        let common = self.fixed & p.mask();
+        self.bits & common != p.value() & common
+    }
 
-// Whether the cell clashes with each of the n unmatching patterns from p on.
-fn all_clash(table: &[u32], n: usize, p: usize, fixed: u32, bits: u32) -> bool
-    requires { p + 3 * n < 2 ^ 63 }
-    ensures { result ≡ all_of (clashes (cell fixed bits)) (unmatching_at table.now n p) }
-{
-    let mut left = n;
-    let mut at = p;
-    while 0 < left {
-        if !is_clash(table, at + 1, fixed, bits) {
-            return false;
+    // Whether the condition holds in it.
+    pub(crate) fn holds(self, k: Condition) -> bool
+        ensures { result ≡ holds (cell_of self) (condition_of k.entry) }
+    {
+        self.implies(k.matching()) && k.unmatching().all(|p| self.clashes(p))
+    }
+
+    // Whether the condition fails in it.
+    pub(crate) fn fails(self, k: Condition) -> bool
+        ensures { result ≡ fails (cell_of self) (condition_of k.entry) }
+    {
+        self.clashes(k.matching()) || k.unmatching().any(|p| self.implies(p))
+    }
+
+    // Whether one of the conditions holds in it.
+    fn holds_one(self, mut conditions: Conditions) -> bool
+        ensures { result ≡ any_of (holds (cell_of self)) (conditions_left conditions.entry) }
+    {
+        conditions.any(|k| self.holds(k))
+    }
+
+    // Whether each of the conditions fails in it.
+    fn fails_all(self, mut conditions: Conditions) -> bool
+        ensures { result ≡ all_of (fails (cell_of self)) (conditions_left conditions.entry) }
+    {
+        conditions.all(|k| self.fails(k))
+    }
+
+    // What the entry at p is in it.
+    fn status(self, ws: &[u32], p: u32) -> Status
+        ensures { result ≡ status_of (cell_of self) (entry_at ws.now p) }
+    {
+        let opcode = Pattern::at(ws, p as usize + 1);
+        if self.clashes(opcode) {
+            return Status::Dead;
         }
-        left -= 1;
-        at += 3;
-    }
-    true
-}
-
-// Whether the cell implies one of the n unmatching patterns from p on.
-fn any_implied(table: &[u32], n: usize, p: usize, fixed: u32, bits: u32) -> bool
-    requires { p + 3 * n < 2 ^ 63 }
-    ensures { result ≡ any_of (implies (cell fixed bits)) (unmatching_at table.now n p) }
-{
-    let mut left = n;
-    let mut at = p;
-    while 0 < left {
-        if is_implied(table, at + 1, fixed, bits) {
-            return true;
+        let conditions = Conditions::of(ws, p);
+        if self.holds_one(conditions) {
+            return Status::Dead;
         }
-        left -= 1;
-        at += 3;
-    }
-    false
-}
-
-// Whether the condition at p holds in the cell.
-pub fn holds(table: &[u32], p: usize, fixed: u32, bits: u32) -> bool
-    requires { p < 2 ^ 62 }
-    ensures { result ≡ holds_in (cell fixed bits) (condition_at table.now p) }
-{
-    if !is_implied(table, p + 1, fixed, bits) {
-        return false;
-    }
-    all_clash(
-        table,
-        followers(words::word_at(table, p)),
-        p + 3,
-        fixed,
-        bits,
-    )
-}
-
-// Whether the condition at p fails in the cell.
-pub fn fails(table: &[u32], p: usize, fixed: u32, bits: u32) -> bool
-    requires { p < 2 ^ 62 }
-    ensures { result ≡ fails_in (cell fixed bits) (condition_at table.now p) }
-{
-    if is_clash(table, p + 1, fixed, bits) {
-        return true;
-    }
-    any_implied(
-        table,
-        followers(words::word_at(table, p)),
-        p + 3,
-        fixed,
-        bits,
-    )
-}
-
-// The place of the first of the n conditions of the entry at p. It is not looked up where there are none.
-pub fn conditions_from(table: &[u32], p: u32, n: usize) -> usize
-    ensures { (conditions_at table.now n result ≡ conditions_at table.now n (conditions_place table.now p)) × (result ≤ p + 19) }
-{
-    if n < 1 {
-        return 0;
-    }
-    table::conditions_at(table, p)
-}
-
-// The place after the condition at p, from which n more stand. It is not looked up where there are none.
-pub fn conditions_after(table: &[u32], p: usize, n: usize) -> usize
-    requires { p < 2 ^ 62 }
-    ensures { (conditions_at table.now n result ≡ conditions_at table.now n (condition_end table.now p)) × (result ≤ p + 48) }
-{
-    if n < 1 {
-        return p;
-    }
-    p + (3 + 3 * followers(words::word_at(table, p)))
-}
-
-// Whether one of the n conditions from p on holds in the cell.
-fn any_holds(table: &[u32], n: usize, p: usize, fixed: u32, bits: u32) -> bool
-    requires { p + 48 * n < 2 ^ 62 }
-    ensures { result ≡ any_of (holds_in (cell fixed bits)) (conditions_at table.now n p) }
-{
-    let mut left = n;
-    let mut at = p;
-    while 0 < left {
-        if holds(table, at, fixed, bits) {
-            return true;
+        if !self.implies(opcode) {
+            return Status::Open;
         }
-        left -= 1;
-        at = conditions_after(table, at, left);
-    }
-    false
-}
-
-// Whether each of the n conditions from p on fails in the cell.
-fn all_fail(table: &[u32], n: usize, p: usize, fixed: u32, bits: u32) -> bool
-    requires { p + 48 * n < 2 ^ 62 }
-    ensures { result ≡ all_of (fails_in (cell fixed bits)) (conditions_at table.now n p) }
-{
-    let mut left = n;
-    let mut at = p;
-    while 0 < left {
-        if !fails(table, at, fixed, bits) {
-            return false;
+        if self.fails_all(conditions) {
+            Status::Sure
+        } else {
+            Status::Open
         }
-        left -= 1;
-        at = conditions_after(table, at, left);
     }
-    true
 }
 
-// What the entry at p is in the cell.
-fn status_at(table: &[u32], p: u32, fixed: u32, bits: u32) -> u8
-    ensures { result ≡ code_of (status_of (cell fixed bits) (entry_at table.now p)) }
-{
-    let at = p as usize;
-    if is_clash(table, at + 1, fixed, bits) {
-        return choice::DEAD;
-    }
-    let n = followers(words::word_at(table, at));
-    let first = conditions_from(table, p, n);
-    if any_holds(table, n, first, fixed, bits) {
-        return choice::DEAD;
-    }
-    if !is_implied(table, at + 1, fixed, bits) {
-        return choice::OPEN;
-    }
-    if all_fail(table, n, first, fixed, bits) {
-        return choice::SURE;
-    }
-    choice::OPEN
+// What each of the entries is in a cell.
+// kept: fixed memory: an array of 256, with the number in use beside
+#[derive(Drop)]
+pub struct Standing<'a> {
+    pub entries: &'a Entries<'a>,
+    pub cell: Cell,
+    pub count: usize,
+    pub statuses: &'a [Status; 256],
+    ghost room: { length statuses.now ≡ 256 },
+    ghost number: { count ≡ min entries.now.count 256 },
+    ghost stated: { (j : ℕ) → j < count → get_or statuses.now j Dead ≡ status_of (cell_of cell) (entry_of entries.now j) },
 }
 
-// Writes what each of the entries at these places is in the cell.
-pub fn statuses(
-    table: &[u32],
-    places: &[u32; 256],
-    count: usize,
-    fixed: u32,
-    bits: u32,
-    s: &mut [u8; 256],
-)
-    requires { (count ≤ 256) × (length s.old ≡ 256) }
-    ensures { Stated (λ j. status_of (cell fixed bits) (entry_placed table.now places.now j)) count s.new }
-{
-    let mut j: usize = 0;
-    while j < count {
-        s[j] = status_at(table, places[j], fixed, bits);
-        j += 1;
+impl<'a> Standing<'a> {
+    // What each of the entries, 256 at most, is in the cell, in room that is lent: what a node costs is mostly here, and nothing is copied.
+    pub fn of(entries: &'a Entries<'a>, cell: Cell, statuses: &'a mut [Status; 256]) -> Standing<'a>
+        ensures { (result.entries.now ≡ entries.entry.now) × (result.cell ≡ cell) }
+    {
+        let count = entries.count.min(256);
+        for j in 0..count {
+            statuses[j] = cell.status(entries.words, entries.places[j]);
+        }
+        Standing {
+            entries,
+            cell,
+            count,
+            statuses,
+        }
     }
 }

@@ -1,190 +1,55 @@
-// The bit to test in a cell that is not settled: step 4.
-ghost use Rattle.std.specs.Prelude.{◌≡◌, not, ℕ, ◌+◌, ◌*◌, ◌≤◌, ◌<◌, ◌^◌, eqb};
+// What a cell is settled as, and the bit to test in one that is not: step 4.
+ghost use Rattle.std.specs.Prelude.{◌≡◌, not, ℕ, ◌≤◌, ◌<◌, length};
 ghost use Rattle.words.specs.Tests.{◌and◌, any_of, exists, best};
 ghost use Rattle.words.specs.Words.{bit};
-ghost use Rattle.table.specs.Table.{condition_at, conditions_at, entry_at};
+ghost use Rattle.table.specs.Table.{entry_at};
+ghost use Rattle.choice.specs.Judged.{said_verdict};
 ghost use Rattle.cell.specs.Cell.{open_condition};
-ghost use Rattle.choice.specs.Status.{Open, code_of, open_in};
-ghost use Rattle.choice.specs.Judged.{entry_placed};
-ghost use Rattle.cell.specs.Step.{in_condition, in_open, votes_at, tested_at};
-ghost use Rattle.cell.specs.Decide.{cell, votes_for, weight_of, Heaviest, in_some, unfixed_in};
+ghost use Rattle.cell.specs.Step.{in_condition, in_open, votes_at, settled_at, tested_at};
+ghost use Rattle.cell.specs.Items.{condition_of};
+ghost use Rattle.cell.specs.Decide.{cell_of, weight_of, Heaviest, in_some, unfixed_in};
+ghost use Rattle.cell.specs.Opened.{entry_in, opened};
 
-use crate::{Weighed, standing};
+use crate::Cell;
+use crate::items::{Condition, Conditions, Pattern};
+use crate::standing::Standing;
+use choice::{Status, Verdict};
 
-// Whether one of the entries is open.
-pub fn any_open(s: &[u8; 256], count: usize) -> bool
-    requires { count ≤ 256 }
-    ensures { result ≡ exists (open_in s.now) count }
+// How many of the masks have bit i; 0 if it is fixed.
+fn weigh(masks: &[u32], fixed: u32, i: u32) -> u32
+    requires { (length masks.now ≤ 256) × (i < 32) }
+    ensures { result ≡ weight_of masks.now fixed i }
 {
-    let mut j: usize = 0;
-    while j < count {
-        if s[j] == choice::OPEN {
-            return true;
-        }
-        j += 1;
-    }
-    false
-}
-
-// How many of the masks have bit i.
-fn votes(masks: &[u32; 256], count: usize, i: u32) -> u32
-    requires { (count ≤ 256) × (i < 32) }
-    ensures { result ≡ votes_for masks.now count i }
-{
-    let mut n: u32 = 0;
-    let mut j: usize = 0;
-    while j < count {
-        n += (masks[j] >> i) & 1;
-        j += 1;
-    }
-    n
-}
-
-// The same if bit i is unfixed; else 0.
-fn weigh(masks: &[u32; 256], count: usize, fixed: u32, i: u32) -> u32
-    requires { (count ≤ 256) × (i < 32) }
-    ensures { result ≡ weight_of masks.now count fixed i }
-{
+    // kept: no vote is a number of votes, and no failure
     if (fixed >> i) & 1 == 1 {
         return 0;
     }
-    votes(masks, count, i)
+    let mut votes = 0;
+    for mask in masks {
+        votes += (*mask >> i) & 1;
+    }
+    votes
 }
 
-// The unfixed bit that most masks have, the highest on a tie.
-fn heaviest(masks: &[u32; 256], count: usize, width: u32, fixed: u32) -> Weighed
-    requires { (count ≤ 256) × (width ≤ 32) }
-    ensures { Heaviest (weight_of masks.now count fixed) width result }
+// The unfixed bit that most masks have, the highest on a tie; none if no mask has one.
+fn heaviest(masks: &[u32], width: u32, fixed: u32) -> Option<u32>
+    requires { (length masks.now ≤ 256) × (width ≤ 32) }
+    ensures { Heaviest (weight_of masks.now fixed) width result }
 {
-    if count < 1 {
-        return Weighed { bit: 0, weight: 0 };
+    // kept: one bound of one number
+    if masks.is_empty() {
+        return None;
     }
-    let mut bit: u32 = 0;
-    let mut weight = weigh(masks, count, fixed, 0);
-    let mut i: u32 = 1;
-    while i < width {
-        let other = weigh(masks, count, fixed, i);
+    let mut bit = 0;
+    let mut weight = weigh(masks, fixed, 0);
+    for i in 1..width {
+        let other = weigh(masks, fixed, i);
         if weight <= other {
             bit = i;
             weight = other;
         }
-        i += 1;
     }
-    Weighed { bit, weight }
-}
-
-// The opcode mask of the entry at p.
-fn opcode_mask(table: &[u32], p: u32) -> u32
-    ensures { result ≡ (entry_at table.now p).opcode.mask }
-{
-    words::word_at(table, p as usize + 1)
-}
-
-// The unfixed bit in the opcode masks of the most open entries, and how many they are. Masks without an unfixed bit are left out.
-fn most_wanted(
-    table: &[u32],
-    places: &[u32; 256],
-    s: &[u8; 256],
-    count: usize,
-    width: u32,
-    fixed: u32,
-) -> Weighed
-    requires { (count ≤ 256) × (width ≤ 32) }
-    ensures { Heaviest (votes_at (entry_placed table.now places.now) (open_in s.now) count fixed) width result }
-{
-    let mut masks = [0u32; 256];
-    let mut n: usize = 0;
-    let mut j: usize = 0;
-    while j < count {
-        if s[j] == choice::OPEN {
-            let mask = opcode_mask(table, places[j]);
-            if fixed & mask != mask {
-                masks[n] = mask;
-                n += 1;
-            }
-        }
-        j += 1;
-    }
-    heaviest(&masks, n, width, fixed)
-}
-
-// The bits in the patterns of the condition at p.
-fn condition_bits(table: &[u32], p: usize) -> u32
-    requires { p < 2 ^ 62 }
-    ensures { (i : ℕ) → bit result i ≡ in_condition i (condition_at table.now p) }
-{
-    let mut found = words::word_at(table, p + 1);
-    let mut left = standing::followers(words::word_at(table, p));
-    let mut at = p + 3;
-    while 0 < left {
-        found = found | words::word_at(table, at + 1);
-        left -= 1;
-        at += 3;
-    }
-    found
-}
-
-// The same if the condition is open in the cell; else no bit.
-fn open_condition_bits(table: &[u32], p: usize, fixed: u32, bits: u32) -> u32
-    requires { p < 2 ^ 62 }
-    ensures { (i : ℕ) → bit result i ≡ open_condition (cell fixed bits) (condition_at table.now p) and in_condition i (condition_at table.now p) }
-{
-    if standing::holds(table, p, fixed, bits) {
-        return 0;
-    }
-    if standing::fails(table, p, fixed, bits) {
-        return 0;
-    }
-    condition_bits(table, p)
-}
-
-// The bits in the patterns of the open ones of the n conditions from p on.
-fn open_bits(table: &[u32], n: usize, p: usize, fixed: u32, bits: u32) -> u32
-    requires { p + 48 * n < 2 ^ 62 }
-    ensures { (i : ℕ) → bit result i ≡ any_of (λ k. open_condition (cell fixed bits) k and in_condition i k) (conditions_at table.now n p) }
-{
-    let mut found: u32 = 0;
-    let mut left = n;
-    let mut at = p;
-    while 0 < left {
-        found = found | open_condition_bits(table, at, fixed, bits);
-        left -= 1;
-        at = standing::conditions_after(table, at, left);
-    }
-    found
-}
-
-// The same for the conditions of an open entry at p; no bit for any other.
-fn entry_bits(table: &[u32], p: u32, s: u8, fixed: u32, bits: u32) -> u32
-    ensures { (i : ℕ) → bit result i ≡ eqb s (code_of Open) and in_open (cell fixed bits) i (entry_at table.now p) }
-{
-    if s != choice::OPEN {
-        return 0;
-    }
-    let n = standing::followers(words::word_at(table, p as usize));
-    let first = standing::conditions_from(table, p, n);
-    open_bits(table, n, first, fixed, bits)
-}
-
-// The same for all entries.
-fn all_bits(
-    table: &[u32],
-    places: &[u32; 256],
-    s: &[u8; 256],
-    count: usize,
-    fixed: u32,
-    bits: u32,
-) -> u32
-    requires { count ≤ 256 }
-    ensures { (i : ℕ) → bit result i ≡ in_some (entry_placed table.now places.now) (open_in s.now) count (cell fixed bits) i }
-{
-    let mut found: u32 = 0;
-    let mut j: usize = 0;
-    while j < count {
-        found = found | entry_bits(table, places[j], s[j], fixed, bits);
-        j += 1;
-    }
-    found
+    if 0 < weight { Some(bit) } else { None }
 }
 
 // Whether bit i is unfixed and in the mask.
@@ -192,10 +57,7 @@ fn is_unfixed(mask: u32, fixed: u32, i: u32) -> bool
     requires { i < 32 }
     ensures { result ≡ bit mask i and not (bit fixed i) }
 {
-    if (mask >> i) & 1 != 1 {
-        return false;
-    }
-    (fixed >> i) & 1 != 1
+    (mask >> i) & 1 == 1 && (fixed >> i) & 1 != 1
 }
 
 // The highest unfixed bit of a mask below the width; the last bit below the width if there is none.
@@ -203,33 +65,111 @@ fn highest(mask: u32, width: u32, fixed: u32) -> u32
     requires { width ≤ 32 }
     ensures { result ≡ best (unfixed_in mask fixed) width }
 {
-    let mut i = width;
-    while 0 < i {
-        i -= 1;
+    // kept: one bound of one number; it answers the last bit where it finds none
+    for i in (0..width).rev() {
         if is_unfixed(mask, fixed, i) {
             return i;
         }
     }
-    if 0 < width { width - 1 } else { 0 }
+    width.saturating_sub(1)
 }
 
-// The bit to test in the cell.
-pub fn bit_to_test(
-    table: &[u32],
-    places: &[u32; 256],
-    s: &[u8; 256],
-    count: usize,
-    width: u32,
-    fixed: u32,
-    bits: u32,
-) -> u32
-    requires { (count ≤ 256) × (width ≤ 32) }
-    ensures { (result ≡ tested_at (entry_placed table.now places.now) (open_in s.now) count width (cell fixed bits)) × (result < 32) }
-{
-    let most = most_wanted(table, places, s, count, width, fixed);
-    let weight = most.weight;
-    if 0 < weight {
-        return most.bit;
+impl<'a> Condition<'a> {
+    // The bits in its patterns.
+    fn bits(self) -> u32
+        ensures { (i : ℕ) → bit result i ≡ in_condition i (condition_of self.entry) }
+    {
+        let matching = self.matching().mask();
+        self.unmatching()
+            .fold(matching, |found, p| found | p.mask())
     }
-    highest(all_bits(table, places, s, count, fixed, bits), width, fixed)
+}
+
+impl Cell {
+    // The bits in the patterns of a condition that is open in it; no bit for any other.
+    fn open_bits(self, k: Condition) -> u32
+        ensures { (i : ℕ) → bit result i ≡ open_condition (cell_of self) (condition_of k.entry) and in_condition i (condition_of k.entry) }
+    {
+        // kept: no bit is a set of bits, and no failure
+        if self.holds(k) || self.fails(k) {
+            0
+        } else {
+            k.bits()
+        }
+    }
+
+    // The same for the conditions of the entry at p.
+    fn entry_bits(self, ws: &[u32], p: u32) -> u32
+        ensures { (i : ℕ) → bit result i ≡ in_open (cell_of self) i (entry_at ws.now p) }
+    {
+        Conditions::of(ws, p).fold(0, |found, k| found | self.open_bits(k))
+    }
+}
+
+impl<'a> Standing<'a> {
+    // What it settles.
+    pub fn verdict(&self) -> Verdict
+        ensures { said_verdict result ≡ settled_at (entry_in self.now) self.now.count (cell_of self.now.cell) }
+    {
+        choice::judge(self.entries, self.statuses)
+    }
+
+    // Whether one of the entries is open.
+    pub fn any_open(&self) -> bool
+        ensures { result ≡ exists (opened self.now) self.now.count }
+    {
+        let statuses = self.statuses;
+        statuses[..self.count].contains(&Status::Open)
+    }
+
+    // The unfixed bit in the opcode masks of the most open entries, the highest on a tie; none if no such mask has an unfixed bit.
+    fn most_wanted(&self, width: u32) -> Option<u32>
+        requires { width ≤ 32 }
+        ensures { Heaviest (votes_at (entry_in self.now) (opened self.now) self.now.count self.now.cell.fixed) width result }
+    {
+        let fixed = self.cell.fixed;
+        // kept: the masks stand in an array with their number beside it, since the libraries have no heap
+        let mut masks = [0u32; 256];
+        let mut n = 0;
+        for j in 0..self.count {
+            let status = self.statuses[j];
+            if status == Status::Open {
+                let opcode = Pattern::at(self.entries.words, self.entries.places[j] as usize + 1);
+                let mask = opcode.mask();
+                if fixed & mask != mask {
+                    masks[n] = mask;
+                    n += 1;
+                }
+            }
+        }
+        heaviest(&masks[..n], width, fixed)
+    }
+
+    // The bits in any pattern of an open condition of an open entry.
+    fn all_bits(&self) -> u32
+        ensures { (i : ℕ) → bit result i ≡ in_some (entry_in self.now) (opened self.now) self.now.count (cell_of self.now.cell) i }
+    {
+        let mut found = 0;
+        for j in 0..self.count {
+            let status = self.statuses[j];
+            if status == Status::Open {
+                found |= self
+                    .cell
+                    .entry_bits(self.entries.words, self.entries.places[j]);
+            }
+        }
+        found
+    }
+
+    // The bit to test in the cell.
+    pub fn bit_to_test(&self, width: u32) -> u32
+        requires { width ≤ 32 }
+        ensures { (result ≡ tested_at (entry_in self.now) (opened self.now) self.now.count width (cell_of self.now.cell)) × (result < 32) }
+    {
+        // kept: one bound of one number
+        match self.most_wanted(width) {
+            Some(bit) => bit,
+            None => highest(self.all_bits(), width, self.cell.fixed),
+        }
+    }
 }

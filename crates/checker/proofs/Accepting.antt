@@ -11,7 +11,8 @@ use native.Mathlib.Omega.{arith}
 use mathlib.Core.Path.{◌≡◌, refl, sym, ap, ◌∙◌, subst}
 use mathlib.Core.Bool.{Bool, true, false, not, false≢true}
 use mathlib.Core.List.{List, [], ◌∷◌, ◌++◌, append_assoc}
-use mathlib.Core.Option.{Option, none, some, or_else}
+use mathlib.Core.Option as maybe
+use mathlib.Core.Option.{none, some, or_else}
 use lib.Bits.{and_zero_r}
 use lib.Dec.{eqb}
 use lib.ListN.{length, length-append, take}
@@ -28,20 +29,18 @@ use Rattle.words.proofs.Outcomes.{not_refused}
 use Rattle.choice.specs.Rule.{Choice, names, nothing, ambiguous, selects, judge}
 use Rattle.selection.specs.Selection.{claims, select}
 use Rattle.choice.proofs.Judging.{answers, selects_names, names_selects, judge_names, judge_nothing}
-use Rattle.flat.specs.Nodes.{header_of, node_of}
-use Rattle.flat.specs.declared.Header.TheVariants.{Good}
+use Rattle.flat.specs.Nodes.{good, header_of, node_of}
 use Rattle.flat.specs.declared.Node.{Node}
 use Rattle.flat.specs.declared.Node.TheVariants.{Asks, Names, Nothing}
 use Rattle.cell.specs.Cell.{Cell, start, zero_side, one_side, live, sure}
 use Rattle.cell.specs.Step.{free}
 use Rattle.tree.specs.Tree.{Tree, leaf, test, below, tree, size, answer, asked, conflict, if_conflict, named}
 use Rattle.tree.specs.Written.{test_word, leaf_word, header_word, nodes, written}
+use Rattle.std.specs.Prelude.{Option, Some, None}
 use Rattle.flat.proofs.Reading.{header-cases, node-cases, Says, node_says}
 use Rattle.flat.specs.Walk.{arrives, after, path, enters, walk_of}
 use Rattle.checker.specs.Checker.{settled, is_step_two, provided, meeting, check_from, check_below, ends_at, accepts_by, accepts, check_of}
 use Rattle.tree.specs.Generate.{fits, generate_of, buffer_of}
-use Rattle.checker.specs.declared.Ended.{Ended}
-use Rattle.checker.specs.declared.Ended.TheVariants.{No, At}
 use Rattle.cell.proofs.Cells.{In, step_end, sure_claims, claims_live, in_zero, in_one, free_less}
 use Rattle.tree.proofs.Theorem.{Fresh, fresh_none, fresh_more, induct}
 use Rattle.tree.proofs.Sizes.{length_nodes, size_pos}
@@ -97,10 +96,10 @@ module _ (es : List Entry) where
 
 module _ (ws : List ℕ) (width n : ℕ) where
   unfoldable pub Stands : ℕ → Tree → Type 0
-  Stands i (leaf (names e)) = node_of width n i (word ws i) ≡ Names e
-  Stands i (leaf nothing) = node_of width n i (word ws i) ≡ Nothing
+  Stands i (leaf (names e)) = node_of width n i (word ws i) ≡ Some (Names e)
+  Stands i (leaf nothing) = node_of width n i (word ws i) ≡ Some Nothing
   Stands i (leaf ambiguous) = ⊥
-  Stands i (test b l r) = (node_of width n i (word ws i) ≡ Asks b (i + 1 + size l)) × Stands (i + 1) l × Stands (i + 1 + size l) r
+  Stands i (test b l r) = (node_of width n i (word ws i) ≡ Some (Asks b (i + 1 + size l))) × Stands (i + 1) l × Stands (i + 1 + size l) r
 
   -- the path of a word is the tree's own
   pub stands_path : (w : ℕ) (t : Tree) (fuel i : ℕ) → Stands i t → size t ≤ fuel → path fuel ws width n w i ≡ arrives (named (answer t w)) (asked t w)
@@ -119,13 +118,13 @@ module _ (ws : List ℕ) (width n : ℕ) where
 
 -- ---- yes: such a tree stands in the words
 
-provided_at : (b : Bool) (r : Ended) (e : ℕ) → provided b r ≡ At e → (b ≡ true) × (r ≡ At e)
+provided_at : (b : Bool) (r : Option ℕ) (e : ℕ) → provided b r ≡ Some e → (b ≡ true) × (r ≡ Some e)
 provided_at true r e h = (refl, h)
 provided_at false r e h = (cc, cc)
 
-meeting_at : (o : Ended) (k : ℕ) (r : Ended) (e : ℕ) → meeting o k r ≡ At e → (o ≡ At k) × (r ≡ At e)
-meeting_at No k r e h = (cc, cc)
-meeting_at (At m) k r e h = let s = provided_at (eqb m k) r e h in (ap At (eqb-true m k s.0), s.1)
+meeting_at : (o : Option ℕ) (k : ℕ) (r : Option ℕ) (e : ℕ) → meeting o k r ≡ Some e → (o ≡ Some k) × (r ≡ Some e)
+meeting_at None k r e h = (cc, cc)
+meeting_at (Some m) k r e h = let s = provided_at (eqb m k) r e h in (ap Some (eqb-true m k s.0), s.1)
 
 step_two : (a : Choice) → is_step_two a ≡ true → nothing ≡ a
 unfolding is_step_two
@@ -133,7 +132,7 @@ step_two (names i) h = absurd (false≢true h)
 step_two nothing h = refl
 step_two ambiguous h = absurd (false≢true h)
 
-no_index : (e : ℕ) → No ≡ At e → ⊥
+no_index : (e : ℕ) → None ≡ Some e → ⊥
 no_index e h = let z : ◌≡◌ {A = ℕ} 0 1 = cc in omega arith
 
 pub not_conflict : (e : ℕ) → names e ≡ ambiguous → ⊥
@@ -142,7 +141,7 @@ not_conflict e h = let z : ◌≡◌ {A = ℕ} 0 1 = cc in omega arith
 pub nothing_clear : nothing ≡ ambiguous → ⊥
 nothing_clear h = let z : ◌≡◌ {A = ℕ} 0 1 = cc in omega arith
 
-same_index : (i e : ℕ) → At i ≡ At e → i ≡ e
+same_index : (i e : ℕ) → Some i ≡ Some e → i ≡ e
 same_index i e h = cc
 
 module _ (es : List Entry) (ws : List ℕ) (width n : ℕ) where
@@ -154,11 +153,11 @@ module _ (es : List Entry) (ws : List ℕ) (width n : ℕ) where
     pub stands : Stands ws width n i held
     pub ends : i + size held ≡ e
 
-  held_names : (c : Cell) (i e x : ℕ) → node_of width n i (word ws i) ≡ Names x → provided (selects (settled es c) x) (At (i + 1)) ≡ At e → Held c i e
+  held_names : (c : Cell) (i e x : ℕ) → node_of width n i (word ws i) ≡ Some (Names x) → provided (selects (settled es c) x) (Some (i + 1)) ≡ Some e → Held c i e
   unfolding Agrees Sound Stands size Says
   held_names c i e x d h =
-      let s = provided_at (selects (settled es c) x) (At (i + 1)) e h in
-      let w : Says width n i (Names x) = rw d at (node_says width n i (word ws i)) in
+      let s = provided_at (selects (settled es c) x) (Some (i + 1)) e h in
+      let w : Says width n i (Some (Names x)) = rw d at (node_says width n i (word ws i)) in
       record {
         held = leaf (names x);
         right = (sym (selects_names (settled es c) x s.0), not_conflict x);
@@ -167,10 +166,10 @@ module _ (es : List Entry) (ws : List ℕ) (width n : ℕ) where
         ends = same_index (i + 1) e s.1;
       }
 
-  held_nothing : (c : Cell) (i e : ℕ) → node_of width n i (word ws i) ≡ Nothing → provided (is_step_two (settled es c)) (At (i + 1)) ≡ At e → Held c i e
+  held_nothing : (c : Cell) (i e : ℕ) → node_of width n i (word ws i) ≡ Some Nothing → provided (is_step_two (settled es c)) (Some (i + 1)) ≡ Some e → Held c i e
   unfolding Agrees Sound Stands size
   held_nothing c i e d h =
-      let s = provided_at (is_step_two (settled es c)) (At (i + 1)) e h in
+      let s = provided_at (is_step_two (settled es c)) (Some (i + 1)) e h in
       record {
         held = leaf nothing;
         right = (step_two (settled es c) s.0, nothing_clear);
@@ -179,11 +178,11 @@ module _ (es : List Entry) (ws : List ℕ) (width n : ℕ) where
         ends = same_index (i + 1) e s.1;
       }
 
-  held_test : (c : Cell) (i e b k : ℕ) → node_of width n i (word ws i) ≡ Asks b k → bit c.fixed b ≡ false
+  held_test : (c : Cell) (i e b k : ℕ) → node_of width n i (word ws i) ≡ Some (Asks b k) → bit c.fixed b ≡ false
       → Held (zero_side c b) (i + 1) k → Held (one_side c b) k e → Held c i e
   unfolding Agrees Sound Stands size Says
   held_test c i e b k d f zs os =
-      let w : Says width n i (Asks b k) = rw d at (node_says width n i (word ws i)) in
+      let w : Says width n i (Some (Asks b k)) = rw d at (node_says width n i (word ws i)) in
       let q : i + 1 + size zs.held ≡ k = zs.ends in
       record {
         held = test b zs.held os.held;
@@ -193,12 +192,12 @@ module _ (es : List Entry) (ws : List ℕ) (width n : ℕ) where
         ends = omega (arith, os.ends);
       }
 
-  pub sound_from : (fuel : ℕ) (c : Cell) (i e : ℕ) → check_from fuel es ws width n c i ≡ At e → Held c i e
+  pub sound_from : (fuel : ℕ) (c : Cell) (i e : ℕ) → check_from fuel es ws width n c i ≡ Some e → Held c i e
   unfolding check_from
   sound_from zero c i e h =
       node-cases (node_of width n i (word ws i))
       (λ d. absurd (no_index e (rw d at h)))
-      (λ b k d. absurd (no_index e (provided_at (not (bit c.fixed b)) No e (rw d at h)).1))
+      (λ b k d. absurd (no_index e (provided_at (not (bit c.fixed b)) None e (rw d at h)).1))
       (λ x d. held_names c i e x d (rw d at h))
       (λ d. held_nothing c i e d (rw d at h))
   sound_from (suc fuel) c i e h =
@@ -217,7 +216,7 @@ module _ (es : List Entry) (ws : List ℕ) (width n : ℕ) where
   two_step c q = rw (← q)
 
   pub complete : (t : Tree) (fuel : ℕ) (c : Cell) (i : ℕ) → Agrees es c t → Sound width t → Stands ws width n i t → free width c.fixed ≤ fuel
-      → check_from fuel es ws width n c i ≡ At (i + size t)
+      → check_from fuel es ws width n c i ≡ Some (i + size t)
   unfolding Agrees Sound Stands size check_from
   complete (leaf (names x)) zero c i g o s k = rw (s, names_selects (settled es c) x (sym g.0))
   complete (leaf (names x)) (suc fuel) c i g o s k = rw (s, names_selects (settled es c) x (sym g.0))
@@ -234,19 +233,19 @@ module _ (es : List Entry) (ws : List ℕ) (width n : ℕ) where
         eq-eqb (i + 1 + size l) (i + 1 + size l) refl,
         complete r fuel (one_side c b) (i + 1 + size l) g.2 o.2 s.2 (omega arith),
       )
-      (ap At (omega arith))
+      (ap Some (omega arith))
 
 -- ---- a tree that the checker accepts
 
-ends_there : (o : Ended) (k : ℕ) → ends_at o k ≡ true → o ≡ At k
-ends_there No k e = absurd (false≢true e)
-ends_there (At m) k e = ap At (eqb-true m k e)
+ends_there : (o : Option ℕ) (k : ℕ) → ends_at o k ≡ true → o ≡ Some k
+ends_there None k e = absurd (false≢true e)
+ends_there (Some m) k e = ap Some (eqb-true m k e)
 
 module _ (es : List Entry) (width : ℕ) (ws : List ℕ) where
   -- its header is good, and its nodes are a tree that is right for the entries
   pub record Accepted : Type 0 where
     pub number : ℕ
-    pub header : header_of (word ws 0) (length ws) ≡ Good width number
+    pub header : header_of (word ws 0) (length ws) ≡ good width number
     pub whole : Held es ws width number start 1 (number + 1)
 
   pub accepted : accepts es width ws ≡ true → Accepted
@@ -259,7 +258,7 @@ module _ (es : List Entry) (width : ℕ) (ws : List ℕ) where
       let q : v ≡ width = eqb-true v width (and_l _ s) in
       record {
         number = n;
-        header = d ∙ ap (λ (x : ℕ). Good x n) q;
+        header = d ∙ ap (λ (x : ℕ). good x n) q;
         whole = sound_from es ws width n (free width 0) start 1 (n + 1) (ends_there _ (n + 1) (and_r _ s));
       })
 
@@ -298,14 +297,14 @@ check_accepts t words e = cases (accepts t.entries t.width words) (λ y. y) (λ 
 
 module _ (es : List Entry) (width n : ℕ) (narrow : width ≤ 32) (few : n < 65536) where
   -- the node that stands after `pre`
-  node_after : (pre rest : List ℕ) (i x : ℕ) (node : Node) → length pre ≡ i → node_of width n i x ≡ node → node_of width n i (word (pre ++ (x ∷ rest)) i) ≡ node
-  node_after pre rest i x node l e = rw (get_or_at pre x rest 0 i l, e)
+  node_after : (pre rest : List ℕ) (i x : ℕ) (found : Option Node) → length pre ≡ i → node_of width n i x ≡ found → node_of width n i (word (pre ++ (x ∷ rest)) i) ≡ found
+  node_after pre rest i x found l e = rw (get_or_at pre x rest 0 i l, e)
 
   stands_written : (t : Tree) (c : Cell) (i : ℕ) (pre post : List ℕ) → Agrees es c t → Sound width t → length pre ≡ i → i + size t ≤ n + 1
       → Stands (pre ++ (nodes i t ++ post)) width n i t
   unfolding Agrees Sound Stands size nodes
-  stands_written (leaf (names e)) c i pre post g o l k = node_after pre post i (leaf_word (names e)) (Names e) l (node_names width n i e (o e refl))
-  stands_written (leaf nothing) c i pre post g o l k = node_after pre post i (leaf_word nothing) Nothing l (node_nothing width n i)
+  stands_written (leaf (names e)) c i pre post g o l k = node_after pre post i (leaf_word (names e)) (Some (Names e)) l (node_names width n i e (o e refl))
+  stands_written (leaf nothing) c i pre post g o l k = node_after pre post i (leaf_word nothing) (Some Nothing) l (node_nothing width n i)
   stands_written (leaf ambiguous) c i pre post g o l k = absurd (g.1 refl)
   stands_written (test b z r) c i pre post g o l k =
       let one : ℕ = i + 1 + size z in
@@ -315,7 +314,7 @@ module _ (es : List Entry) (width n : ℕ) (narrow : width ≤ 32) (few : n < 65
       let whole : List ℕ = pre ++ (x ∷ ((zs ++ os) ++ post)) in
       let left : whole ≡ (pre ++ (x ∷ [])) ++ (zs ++ (os ++ post)) = simp append_assoc in
       let right : whole ≡ (pre ++ (x ∷ zs)) ++ (os ++ post) = simp append_assoc in (
-        node_after pre ((zs ++ os) ++ post) i x (Asks b one) l
+        node_after pre ((zs ++ os) ++ post) i x (Some (Asks b one)) l
             (node_test width n i b one narrow few o.0 (omega (arith, size_pos z)) (omega (arith, size_pos r))),
         subst (λ (k : List ℕ). Stands k width n (i + 1) z) (sym left) (stands_written z (zero_side c b) (i + 1) (pre ++ (x ∷ [])) (os ++ post) g.1 o.1 (simp length-append (omega arith)) (omega arith)),
         subst (λ (k : List ℕ). Stands k width n one r) (sym right) (stands_written r (one_side c b) one (pre ++ (x ∷ zs)) post g.2 o.2 (simp length-append (omega (arith, length_nodes z (i + 1)))) (omega arith)),
@@ -336,7 +335,7 @@ module _ (es : List Entry) (width : ℕ) (some-width : 1 ≤ width) (narrow : wi
 
 -- ---- the tree of a table
 
-or_none : (x y : Option ℕ) → or_else x y ≡ none → (x ≡ none) × (y ≡ none)
+or_none : (x y : maybe.Option ℕ) → or_else x y ≡ none → (x ≡ none) × (y ≡ none)
 unfolding or_else
 or_none none y e = (refl, e)
 or_none (some w) y e = (cc, cc)

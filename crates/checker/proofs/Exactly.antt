@@ -23,16 +23,15 @@ use Rattle.table.specs.Table.{Entry, Table, entry_number}
 use Rattle.table.specs.Check.{read_table}
 use Rattle.choice.specs.Rule.{names, nothing, ambiguous, more_specific, beats, judge, judge_at}
 use Rattle.choice.proofs.Judging.{names_selects, choice_names, choice_nothing, over, overs_beat, wins_one}
-use Rattle.flat.specs.Nodes.{header_of, node_of}
-use Rattle.flat.specs.declared.Header.TheVariants.{Good}
+use Rattle.flat.specs.Nodes.{good, header_of, node_of}
 use Rattle.flat.specs.declared.Node.{Node}
-use Rattle.flat.specs.declared.Node.TheVariants.{Damaged, Asks, Names, Nothing}
+use Rattle.flat.specs.declared.Node.TheVariants.{Asks, Names, Nothing}
+use Rattle.std.specs.Prelude.{Option, Some, None}
 use Rattle.flat.proofs.Reading.{header_nodes, node-cases, Says, node_says}
 use Rattle.cell.specs.Cell.{Cell, start, zero_side, one_side, live, sure}
 use Rattle.cell.specs.Step.{free}
 use Rattle.cell.proofs.Cells.{free_less}
 use Rattle.tree.specs.Tree.{Tree, leaf, test, size}
-use Rattle.checker.specs.declared.Ended.TheVariants.{At}
 use Rattle.checker.specs.Checker.{settled, is_step_two, check_from, check_below, accepts_by, accepts, check_of}
 use Rattle.checker.proofs.Accepting.{Agrees, Stands, Held, accepted}
 
@@ -75,41 +74,41 @@ module _ (es : List Entry) (c : Cell) where
 -- ---- the nodes of a tree, in any words
 
 module _ (ws : List ℕ) (width n : ℕ) where
-  abbrev node : ℕ → Node
+  abbrev node : ℕ → Option Node
   node i = node_of width n i (word ws i)
 
   -- the subtree whose first node is at i ends before e: a leaf is one node, and a test ends where its one side does
   pub data Ends : ℕ → ℕ → Type 0 where
-    after_entry : {i e : ℕ} (x : ℕ) → node i ≡ Names x → i + 1 ≡ e → Ends i e
-    after_nothing : {i e : ℕ} → node i ≡ Nothing → i + 1 ≡ e → Ends i e
-    after_test : {i e : ℕ} (b k m : ℕ) → node i ≡ Asks b k → Ends (i + 1) m → Ends k e → Ends i e
+    after_entry : {i e : ℕ} (x : ℕ) → node i ≡ Some (Names x) → i + 1 ≡ e → Ends i e
+    after_nothing : {i e : ℕ} → node i ≡ Some Nothing → i + 1 ≡ e → Ends i e
+    after_test : {i e : ℕ} (b k m : ℕ) → node i ≡ Some (Asks b k) → Ends (i + 1) m → Ends k e → Ends i e
 
   -- the node at i is met in the cell c: the first with no bit fixed, and the sides of a test with its bit fixed as well
   pub data Met : ℕ → Cell → Type 0 where
     at_first : {i : ℕ} {c : Cell} → 1 ≡ i → start ≡ c → Met i c
-    zero_met : {j : ℕ} {d : Cell} (i : ℕ) (c : Cell) (b k : ℕ) → Met i c → node i ≡ Asks b k → i + 1 ≡ j → zero_side c b ≡ d → Met j d
-    one_met : {j : ℕ} {d : Cell} (i : ℕ) (c : Cell) (b k : ℕ) → Met i c → node i ≡ Asks b k → k ≡ j → one_side c b ≡ d → Met j d
+    zero_met : {j : ℕ} {d : Cell} (i : ℕ) (c : Cell) (b k : ℕ) → Met i c → node i ≡ Some (Asks b k) → i + 1 ≡ j → zero_side c b ≡ d → Met j d
+    one_met : {j : ℕ} {d : Cell} (i : ℕ) (c : Cell) (b k : ℕ) → Met i c → node i ≡ Some (Asks b k) → k ≡ j → one_side c b ≡ d → Met j d
 
 -- "After 1–4 it says yes exactly when:"
 pub record Clauses (es : List Entry) (width : ℕ) (ws : List ℕ) : Type 0 where
   pub said : ℕ
   pub number : ℕ
   -- "header good": it says a width, and a number of nodes
-  pub header : header_of (word ws 0) (length ws) ≡ Good said number
+  pub header : header_of (word ws 0) (length ws) ≡ good said number
   -- "widths equal"
   pub widths : said ≡ width
   -- "no node damaged"
-  pub whole : (i : ℕ) → 1 ≤ i → i ≤ number → node_of width number i (word ws i) ≡ Damaged → ⊥
+  pub whole : (i : ℕ) → 1 ≤ i → i ≤ number → node_of width number i (word ws i) ≡ None → ⊥
   -- "each one side begins where the zero side ends"
-  pub sides : (i b k : ℕ) → 1 ≤ i → i ≤ number → node_of width number i (word ws i) ≡ Asks b k → Ends ws width number (i + 1) k
+  pub sides : (i b k : ℕ) → 1 ≤ i → i ≤ number → node_of width number i (word ws i) ≡ Some (Asks b k) → Ends ws width number (i + 1) k
   -- "all nodes are used"
   pub used : (i : ℕ) → 1 ≤ i → i ≤ number → (c : Cell) × Met ws width number i c
   -- "no path tests a bit twice"
-  pub once : (i : ℕ) (c : Cell) (b k : ℕ) → Met ws width number i c → node_of width number i (word ws i) ≡ Asks b k → bit c.fixed b ≡ false
+  pub once : (i : ℕ) (c : Cell) (b k : ℕ) → Met ws width number i c → node_of width number i (word ws i) ≡ Some (Asks b k) → bit c.fixed b ≡ false
   -- "each named entry is the one of step 1 in its cell"
-  pub named : (i : ℕ) (c : Cell) (e : ℕ) → Met ws width number i c → node_of width number i (word ws i) ≡ Names e → StepOne es c e
+  pub named : (i : ℕ) (c : Cell) (e : ℕ) → Met ws width number i c → node_of width number i (word ws i) ≡ Some (Names e) → StepOne es c e
   -- "each nothing has step 2"
-  pub nothings : (i : ℕ) (c : Cell) → Met ws width number i c → node_of width number i (word ws i) ≡ Nothing → StepTwo es c
+  pub nothings : (i : ℕ) (c : Cell) → Met ws width number i c → node_of width number i (word ws i) ≡ Some Nothing → StepTwo es c
 
 -- ---- accepted: the clauses hold
 
@@ -148,7 +147,7 @@ module _ (es : List Entry) (ws : List ℕ) (width n : ℕ) where
     ones : Part k (one_side c b)
     ends : i + 1 + size zeros.held ≡ k
 
-  tested : (i : ℕ) (c : Cell) (b k : ℕ) → Part i c → node_of width n i (word ws i) ≡ Asks b k → Sides i c b k
+  tested : (i : ℕ) (c : Cell) (b k : ℕ) → Part i c → node_of width n i (word ws i) ≡ Some (Asks b k) → Sides i c b k
   unfolding Agrees Stands
   tested i c b k p d = go p.held p.right p.stands
     where
@@ -157,7 +156,7 @@ module _ (es : List Entry) (ws : List ℕ) (width n : ℕ) where
       go (leaf nothing) g s = absurd (let z : ◌≡◌ {A = ℕ} 0 1 = cc in omega arith)
       go (leaf ambiguous) g s = absurd s
       go (test a l r) g s =
-          let e : node_of width n i (word ws i) ≡ Asks a (i + 1 + size l) = s.0 in
+          let e : node_of width n i (word ws i) ≡ Some (Asks a (i + 1 + size l)) = s.0 in
           let q : a ≡ b = cc in
           let m : i + 1 + size l ≡ k = cc in
           record {
@@ -173,7 +172,7 @@ module _ (es : List Entry) (ws : List ℕ) (width n : ℕ) where
   met_part p i c (zero_met j d b k m e q r) = rw (q, r) at (tested j d b k (met_part p j d m) e).zeros
   met_part p i c (one_met j d b k m e q r) = rw (q, r) at (tested j d b k (met_part p j d m) e).ones
 
-  leaf_entry : (i : ℕ) (c : Cell) (e : ℕ) → Part i c → node_of width n i (word ws i) ≡ Names e → settled es c ≡ names e
+  leaf_entry : (i : ℕ) (c : Cell) (e : ℕ) → Part i c → node_of width n i (word ws i) ≡ Some (Names e) → settled es c ≡ names e
   unfolding Agrees Stands
   leaf_entry i c e p d = go p.held p.right p.stands
     where
@@ -183,7 +182,7 @@ module _ (es : List Entry) (ws : List ℕ) (width n : ℕ) where
       go (leaf ambiguous) g s = absurd s
       go (test a l r) g s = absurd (let f = s.0 in let z : ◌≡◌ {A = ℕ} 0 1 = cc in omega arith)
 
-  leaf_nothing : (i : ℕ) (c : Cell) → Part i c → node_of width n i (word ws i) ≡ Nothing → settled es c ≡ nothing
+  leaf_nothing : (i : ℕ) (c : Cell) → Part i c → node_of width n i (word ws i) ≡ Some Nothing → settled es c ≡ nothing
   unfolding Agrees Stands
   leaf_nothing i c p d = go p.held p.right p.stands
     where
@@ -193,7 +192,7 @@ module _ (es : List Entry) (ws : List ℕ) (width n : ℕ) where
       go (leaf ambiguous) g s = absurd s
       go (test a l r) g s = absurd (let f = s.0 in let z : ◌≡◌ {A = ℕ} 0 1 = cc in omega arith)
 
-  not_damaged : (i : ℕ) (t : Tree) → Stands ws width n i t → node_of width n i (word ws i) ≡ Damaged → ⊥
+  not_damaged : (i : ℕ) (t : Tree) → Stands ws width n i t → node_of width n i (word ws i) ≡ None → ⊥
   unfolding Stands
   not_damaged i (leaf (names x)) s d = let z : ◌≡◌ {A = ℕ} 0 1 = cc in omega arith
   not_damaged i (leaf nothing) s d = let z : ◌≡◌ {A = ℕ} 0 1 = cc in omega arith
@@ -208,7 +207,7 @@ module _ (es : List Entry) (ws : List ℕ) (width n : ℕ) where
   ends_lt (after_entry x d q) = omega arith
   ends_lt (after_nothing d q) = omega arith
   ends_lt {i = i} (after_test b k m d z o) =
-      let s : Says width n i (Asks b k) = rw d at (node_says width n i (word ws i)) in
+      let s : Says width n i (Some (Asks b k)) = rw d at (node_says width n i (word ws i)) in
       omega (arith, ends_lt o, s.2)
 
   ends_most : {i e : ℕ} → i ≤ n → Ends ws width n i e → e ≤ n + 1
@@ -216,7 +215,7 @@ module _ (es : List Entry) (ws : List ℕ) (width n : ℕ) where
   ends_most h (after_entry x d q) = omega arith
   ends_most h (after_nothing d q) = omega arith
   ends_most {i = i} h (after_test b k m d z o) =
-      let s : Says width n i (Asks b k) = rw d at (node_says width n i (word ws i)) in
+      let s : Says width n i (Some (Asks b k)) = rw d at (node_says width n i (word ws i)) in
       ends_most s.3 o
 
   ends_one : {i e f : ℕ} → Ends ws width n i e → Ends ws width n i f → e ≡ f
@@ -231,7 +230,7 @@ module _ (es : List Entry) (ws : List ℕ) (width n : ℕ) where
   ends_one (after_test b k m d z o) (after_test a j l c y p) = let q : k ≡ j = cc in ends_one (rw q at o) p
 
   -- the side of a test that ends where the whole does
-  one_ends : {i e : ℕ} (b k : ℕ) → node_of width n i (word ws i) ≡ Asks b k → Ends ws width n i e → Ends ws width n k e
+  one_ends : {i e : ℕ} (b k : ℕ) → node_of width n i (word ws i) ≡ Some (Asks b k) → Ends ws width n i e → Ends ws width n k e
   one_ends b k d (after_entry x c q) = absurd (let y : ◌≡◌ {A = ℕ} 0 1 = cc in omega arith)
   one_ends b k d (after_nothing c q) = absurd (let y : ◌≡◌ {A = ℕ} 0 1 = cc in omega arith)
   one_ends b k d (after_test a j m c z o) = let q : j ≡ k = cc in rw q at o
@@ -248,36 +247,36 @@ module _ (es : List Entry) (width : ℕ) (ws : List ℕ) (cl : Clauses es width 
   unfolding Says
   met_within (at_first q r) = (omega arith, omega (arith, some_node))
   met_within (zero_met i c b k m d q r) =
-      let s : Says width n i (Asks b k) = rw d at (node_says width n i (word ws i)) in
+      let s : Says width n i (Some (Asks b k)) = rw d at (node_says width n i (word ws i)) in
       (omega arith, omega (arith, s.2, s.3))
   met_within (one_met i c b k m d q r) =
-      let s : Says width n i (Asks b k) = rw d at (node_says width n i (word ws i)) in
+      let s : Says width n i (Some (Asks b k)) = rw d at (node_says width n i (word ws i)) in
       (omega (arith, s.2), omega (arith, s.3))
 
-  entry_here : (fuel i : ℕ) (c : Cell) → Met ws width n i c → (e : ℕ) → node_of width n i (word ws i) ≡ Names e
-      → (x : ℕ) × (check_from fuel es ws width n c i ≡ At x) × Ends ws width n i x
+  entry_here : (fuel i : ℕ) (c : Cell) → Met ws width n i c → (e : ℕ) → node_of width n i (word ws i) ≡ Some (Names e)
+      → (x : ℕ) × (check_from fuel es ws width n c i ≡ Some x) × Ends ws width n i x
   unfolding check_from
   entry_here zero i c m e d =
       (i + 1, rw (d, names_selects (settled es c) e ((one_exactly es c e).1 (cl.named i c e m d))), after_entry e d refl)
   entry_here (suc fuel) i c m e d =
       (i + 1, rw (d, names_selects (settled es c) e ((one_exactly es c e).1 (cl.named i c e m d))), after_entry e d refl)
 
-  nothing_here : (fuel i : ℕ) (c : Cell) → Met ws width n i c → node_of width n i (word ws i) ≡ Nothing
-      → (x : ℕ) × (check_from fuel es ws width n c i ≡ At x) × Ends ws width n i x
+  nothing_here : (fuel i : ℕ) (c : Cell) → Met ws width n i c → node_of width n i (word ws i) ≡ Some Nothing
+      → (x : ℕ) × (check_from fuel es ws width n c i ≡ Some x) × Ends ws width n i x
   unfolding check_from is_step_two
   nothing_here zero i c m d = (i + 1, rw (d, (two_exactly es c).1 (cl.nothings i c m d)), after_nothing d refl)
   nothing_here (suc fuel) i c m d = (i + 1, rw (d, (two_exactly es c).1 (cl.nothings i c m d)), after_nothing d refl)
 
   -- the rule says yes from every node that is met
   says_yes : (fuel i : ℕ) (c : Cell) → Met ws width n i c → free width c.fixed ≤ fuel
-      → (x : ℕ) × (check_from fuel es ws width n c i ≡ At x) × Ends ws width n i x
+      → (x : ℕ) × (check_from fuel es ws width n c i ≡ Some x) × Ends ws width n i x
   unfolding check_from Says
   says_yes zero i c m f =
       let w = met_within m in
       node-cases (node_of width n i (word ws i))
       (λ d. absurd (cl.whole i w.0 w.1 d))
       (λ b k d.
-      let s : Says width n i (Asks b k) = rw d at (node_says width n i (word ws i)) in
+      let s : Says width n i (Some (Asks b k)) = rw d at (node_says width n i (word ws i)) in
       absurd (omega (arith, free_less c b width s.0 (cl.once i c b k m d))))
       (λ e d. entry_here zero i c m e d)
       (λ d. nothing_here zero i c m d)
@@ -286,7 +285,7 @@ module _ (es : List Entry) (width : ℕ) (ws : List ℕ) (cl : Clauses es width 
       node-cases (node_of width n i (word ws i))
       (λ d. absurd (cl.whole i w.0 w.1 d))
       (λ b k d.
-      let s : Says width n i (Asks b k) = rw d at (node_says width n i (word ws i)) in
+      let s : Says width n i (Some (Asks b k)) = rw d at (node_says width n i (word ws i)) in
       let fresh = cl.once i c b k m d in
       let less = free_less c b width s.0 fresh in
       let zs = says_yes fuel (i + 1) (zero_side c b) (zero_met i c b k m d refl refl) (omega arith) in

@@ -1,57 +1,22 @@
--- The code's search: who is more specific, who gives way, who leads, and what that settles. Assumes nothing.
-use mathlib.Core.Path.{◌≡◌, refl}
+-- The code's search: who leads, and what that settles. Assumes nothing.
+use mathlib.Core.Path.{◌≡◌, refl, ap}
 use mathlib.Core.List.{List}
-use mathlib.Core.Bool.{Bool, true, false, not}
-use Prim.Native.Nat.{ℕ, ◌+◌, ◌≤◌, ◌<◌}
+use mathlib.Core.Bool.{Bool, true, false}
+use Prim.Native.Nat.{ℕ, ◌+◌, ◌≤◌, ◌<◌, min}
 use native.Mathlib.Omega.{arith}
-use lib.Bits.{bit_and}
-use lib.Dec.{eqb}
-use lib.ListN.{get_or}
+use lib.ListN.{length, get_or, take}
+use Rattle.std.proofs.lemmas.List.{get_or-take, length-take-le}
 use borrow.Author.Count.{below_more}
-use borrow.Author.Tests.{eqb-true, eq-eqb, ne_eqb}
-use Rattle.words.specs.Tests.{◌and◌, ◌or◌}
-use Rattle.words.specs.Words.{includes}
-use Rattle.words.proofs.Logic.{clash, is_false, and_l, and_r, and_i, exists_make, exists_no, first_only, first_no}
+use Rattle.words.specs.Tests.{◌and◌}
+use Rattle.words.proofs.Logic.{clash, is_false, and_l, and_r, and_i, exists_make, exists_no, every_at, every_make, first_only, first_no}
 use Rattle.table.specs.Table.{Entry}
-use Rattle.choice.specs.Rule.{names, nothing, ambiguous, matches, more_specific, gives_way, beats_at, judge_at}
-use Rattle.choice.specs.Status.{sure_in, live_in}
+use Rattle.choice.specs.Rule.{names, nothing, ambiguous, more_specific, gives_way, beats_at, judge_at}
+use Rattle.choice.specs.Status.{is_sure, is_live, sure_in, live_in}
+use Rattle.choice.specs.declared.Status.{Status}
+use Rattle.choice.specs.declared.Status.TheVariants.{Dead, Sure, Open}
+use Rattle.std.specs.Prelude.{Some, None, IsTrue}
 use Rattle.choice.specs.Judged.{FirstLive, Leads}
-use Rattle.choice.proofs.Judging.{not_mutual, over}
-
--- ---- a status as the code tests it
-pub not_dead : (x : ℕ) → (x ≡ 0 → ⊥) → not (eqb x 0) ≡ true
-not_dead x h = rw (ne_eqb x 0 h)
-
-pub is_dead : (x : ℕ) → x ≡ 0 → not (eqb x 0) ≡ false
-is_dead x h = rw (eq-eqb x 0 h)
-
--- ---- more specific; m and o are the masks as the code has them, v and u the values
-module _ (e f : Entry) (m o : ℕ) (p : m ≡ e.opcode.mask) (q : o ≡ f.opcode.mask) where
-  pub not_held : (bit_and m o ≡ o → ⊥) → false ≡ more_specific e f
-  unfolding more_specific includes ◌and◌
-  not_held h = rw (← p, ← q, ne_eqb _ _ h)
-
-  pub same_mask : bit_and m o ≡ o → m ≡ o → false ≡ more_specific e f
-  unfolding more_specific includes ◌and◌
-  same_mask h t = rw (← p, ← q, eq-eqb _ _ h, eq-eqb _ _ t)
-
-  pub by_value : bit_and m o ≡ o → (m ≡ o → ⊥) → (v u : ℕ) → v ≡ e.opcode.value → u ≡ f.opcode.value → eqb (bit_and v o) u ≡ more_specific e f
-  unfolding more_specific includes matches ◌and◌
-  by_value h t v u x y = rw (← p, ← q, ← x, ← y, eq-eqb _ _ h, ne_eqb _ _ t)
-
--- ---- giving way
-module _ (entry : ℕ → Entry) (live : ℕ → Bool) (i j : ℕ) where
-  pub way_self : j ≡ i → true ≡ gives_way entry live i j
-  unfolding gives_way ◌or◌
-  way_self h = rw (eq-eqb j i h)
-
-  pub way_out : (j ≡ i → ⊥) → live j ≡ false → true ≡ gives_way entry live i j
-  unfolding gives_way ◌or◌
-  way_out h l = rw (ne_eqb j i h, l)
-
-  pub way_less : (j ≡ i → ⊥) → live j ≡ true → (r : Bool) → r ≡ more_specific (entry i) (entry j) → r ≡ gives_way entry live i j
-  unfolding gives_way ◌or◌
-  way_less h l r t = rw (ne_eqb j i h, l) t
+use Rattle.choice.proofs.Judging.{not_mutual, over, judge_alike}
 
 -- ---- the leader
 module _ (entry : ℕ → Entry) (live : ℕ → Bool) (n : ℕ) where
@@ -61,12 +26,12 @@ module _ (entry : ℕ → Entry) (live : ℕ → Bool) (n : ℕ) where
     pub here : live r ≡ true
     pub only : (j : ℕ) → j < k → live j ≡ true → beats_at entry live n j ≡ true → j ≡ r
 
-  pub ahead_start : (s : ℕ) → s < n → FirstLive live n s → Ahead (s + 1) s
-  ahead_start s h f =
+  pub ahead_start : (s : ℕ) → FirstLive live n (Some s) → Ahead (s + 1) s
+  ahead_start s f =
       record {
         below = omega arith;
-        here = f.here h;
-        only = below_more (λ (j : ℕ). live j ≡ true → beats_at entry live n j ≡ true → j ≡ s) s (λ j l t b. clash t (f.before j l)) (λ t b. refl);
+        here = f.1;
+        only = below_more (λ (j : ℕ). live j ≡ true → beats_at entry live n j ≡ true → j ≡ s) s (λ j l t b. clash t (f.2 j l)) (λ t b. refl);
       }
 
   module _ (k r : ℕ) (h : k < n) (a : Ahead k r) where
@@ -107,8 +72,21 @@ module _ (entry : ℕ → Entry) (live : ℕ → Bool) (n : ℕ) where
       let b = a.below in
       record { bound = omega arith; here = a.here; only = λ j l t w. a.only j (omega arith) t w }
 
+-- the statuses of those that are judged, alone
+pub judge_front : (entry : ℕ → Entry) (s : List Status) (n m : ℕ) → length s ≡ 256 → n ≡ min m 256
+    → judge_at entry (sure_in (take n s)) (live_in (take n s)) (length (take n s)) ≡ judge_at entry (sure_in s) (live_in s) (min m 256)
+judge_front entry s n m l h =
+    rw (length-take-le n s (omega arith), ← h)
+    (judge_alike entry entry _ _ _ _ n (λ j k. refl)
+    (λ j k. ap is_sure (get_or-take n s j Dead k)) (λ j k. ap is_live (get_or-take n s j Dead k)))
+
 -- ---- what an array of statuses settles
-module _ (entry : ℕ → Entry) (s : List ℕ) (n : ℕ) where
+live_sure : (x : Status) → is_sure x ≡ true → is_live x ≡ true
+live_sure Dead h = h
+live_sure Sure h = h
+live_sure Open h = refl
+
+module _ (entry : ℕ → Entry) (s : List Status) (n : ℕ) where
   abbrev sure : ℕ → Bool
   sure = sure_in s
 
@@ -116,18 +94,16 @@ module _ (entry : ℕ → Entry) (s : List ℕ) (n : ℕ) where
   live = live_in s
 
   within : (j : ℕ) → sure j ≡ true → live j ≡ true
-  within j h = let e : get_or s j 0 ≡ 1 = eqb-true _ _ h in rw e
+  within j h = live_sure (get_or s j Dead) h
 
-  pub none_live : (r : ℕ) → n ≤ r → FirstLive live n r → nothing ≡ judge_at entry sure live n
+  pub none_live : FirstLive live n None → nothing ≡ judge_at entry sure live n
   unfolding judge_at
-  none_live r h f =
-      let out : (j : ℕ) → j < n → live j ≡ false = λ j l. f.before j (omega arith) in
-      rw (first_no _ n (λ j l. is_false (λ w. clash (within j (and_l _ w)) (out j l))), exists_no _ n out)
+  none_live out = rw (first_no _ n (λ j l. is_false (λ w. clash (within j (and_l _ w)) (out j l))), exists_no _ n out)
 
   module _ (r : ℕ) (l : Leads entry live n r) where
-    pub leader_wins : sure r ≡ true → beats_at entry live n r ≡ true → names r ≡ judge_at entry sure live n
-    unfolding judge_at
-    leader_wins t b = rw (first_only _ n r l.bound (and_i t b) (λ j h w. l.only j h (within j (and_l _ w)) (and_r _ w)))
+    pub leader_wins : sure r ≡ true → ((j : ℕ) → j < n → IsTrue (gives_way entry live r j)) → names r ≡ judge_at entry sure live n
+    unfolding judge_at beats_at
+    leader_wins t b = rw (first_only _ n r l.bound (and_i t (every_make _ n b)) (λ j h w. l.only j h (within j (and_l _ w)) (and_r _ w)))
 
     leader_fails : (sure r and beats_at entry live n r ≡ true → ⊥) → ambiguous ≡ judge_at entry sure live n
     unfolding judge_at
@@ -139,5 +115,6 @@ module _ (entry : ℕ → Entry) (s : List ℕ) (n : ℕ) where
     pub leader_open : sure r ≡ false → ambiguous ≡ judge_at entry sure live n
     leader_open t = leader_fails (λ w. clash (and_l _ w) t)
 
-    pub leader_beaten : beats_at entry live n r ≡ false → ambiguous ≡ judge_at entry sure live n
-    leader_beaten b = leader_fails (λ w. clash (and_r _ w) b)
+    pub leader_beaten : (((j : ℕ) → j < n → IsTrue (gives_way entry live r j)) → ⊥) → ambiguous ≡ judge_at entry sure live n
+    unfolding beats_at
+    leader_beaten b = leader_fails (λ w. b (every_at _ n (and_r _ w)))

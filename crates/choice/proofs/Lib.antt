@@ -1,4 +1,5 @@
 pub mod Judging
 pub mod Within
+pub mod Statuses
 pub mod Leading
 pub mod Placed

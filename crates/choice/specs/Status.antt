@@ -1,27 +1,34 @@
--- What an entry is in a cell, and the numbers that stand for it in the code's arrays.
-use Rattle.std.specs.Prelude.{ℕ, ◌<◌, ◌≡◌, Bool, not, List, eqb, get_or}
+-- What an entry is in a cell, and an array of what entries are.
+use Rattle.std.specs.Prelude.{ℕ, ◌<◌, ◌≡◌, Bool, true, false, List, get_or}
+use Rattle.choice.specs.declared.Status.{Status}
+use Rattle.choice.specs.declared.Status.TheVariants.{Dead, Sure, Open}
 
-pub data Status : Type 0 where
-  Dead : Status
-  Sure : Status
-  Open : Status
+-- it is sure; it is open; "Live means sure or open"
+abbrev pub is_sure : Status → Bool
+is_sure Dead = false
+is_sure Sure = true
+is_sure Open = false
 
--- the constants DEAD, SURE and OPEN
-abbrev pub code_of : Status → ℕ
-code_of Dead = 0
-code_of Sure = 1
-code_of Open = 2
+abbrev pub is_open : Status → Bool
+is_open Dead = false
+is_open Sure = false
+is_open Open = true
 
--- entry j of the array is sure; is open; "Live means sure or open": it is not dead
-abbrev pub sure_in : List ℕ → ℕ → Bool
-sure_in s j = eqb (get_or s j 0) (code_of Sure)
+abbrev pub is_live : Status → Bool
+is_live Dead = false
+is_live Sure = true
+is_live Open = true
 
-abbrev pub open_in : List ℕ → ℕ → Bool
-open_in s j = eqb (get_or s j 0) (code_of Open)
+-- entry j of the array is
+abbrev pub sure_in : List Status → ℕ → Bool
+sure_in s j = is_sure (get_or s j Dead)
 
-abbrev pub live_in : List ℕ → ℕ → Bool
-live_in s j = not (eqb (get_or s j 0) (code_of Dead))
+abbrev pub open_in : List Status → ℕ → Bool
+open_in s j = is_open (get_or s j Dead)
+
+abbrev pub live_in : List Status → ℕ → Bool
+live_in s j = is_live (get_or s j Dead)
 
 -- the array has the status of each of n entries
-unfoldable pub Stated : (ℕ → Status) → ℕ → List ℕ → Type 0
-Stated status n s = (j : ℕ) → j < n → get_or s j 0 ≡ code_of (status j)
+unfoldable pub Stated : (ℕ → Status) → ℕ → List Status → Type 0
+Stated status n s = (j : ℕ) → j < n → get_or s j Dead ≡ status j

@@ -1,5 +1,6 @@
 // A word's path through a tree, found in another way than the walker's: the nodes are gone through
 // in the order that they are written in, and the tests that the path comes to are collected.
+// kept: numbers as the papers have them: another reading than the libraries', whose mistakes it must not share.
 
 // How many tests a path comes to, and the mask of their bits.
 #[derive(Drop)]
@@ -25,17 +26,14 @@ fn one_side(node: u32, w: u32) -> usize {
 
 // The tests that a word's path comes to. The first other node ends it.
 pub fn tests(tree: &[u32], w: u32) -> Seen {
-    let mut index: usize = 1;
     let mut from: usize = 0;
     let mut count: usize = 0;
     let mut mask: u32 = 0;
-    while index < tree.len() {
-        let here = index;
-        index += 1;
-        if from <= here {
-            let node = tree[here];
+    for index in 1..tree.len() {
+        if from <= index {
+            let node = tree[index];
             if node >> 28 != 8 {
-                return Seen { count, mask };
+                break;
             }
             count += 1;
             mask |= asked(node);

@@ -17,15 +17,15 @@ use lib.Dec.{eqb, ltb}
 use lib.ListN.{length}
 use lib.Pow.{pow_pos, pow-lt}
 use borrow.Author.Tests.{eq-eqb, ne_eqb, eqb-true, eqb-false, lt-ltb}
+use Rattle.std.specs.Prelude.{Some}
 use Rattle.words.specs.Outcome.{result}
 use Rattle.words.specs.Tests.{◌or◌, is_in, distinct, how_many}
 use Rattle.words.specs.Words.{word, bit}
 use Rattle.words.proofs.Bits.{mask_agree, bit_or_lem, bit_none, bit_pow, bit_pow_other}
 use Rattle.words.proofs.Outcomes.{not_refused}
 use Rattle.words.proofs.Logic.{cases, and_i, and_l, and_r, not_t, or_e, or_il, or_ir, how_many_same, how_many_less}
-use Rattle.flat.specs.Nodes.{header_width, header_of, node_of}
+use Rattle.flat.specs.Nodes.{good, header_width, header_of, node_of}
 use Rattle.flat.specs.Walk.{Ending, arrives, breaks, after, path, mask_of, ones, Walk, ended, enters, walk_of}
-use Rattle.flat.specs.declared.Header.TheVariants.{Good}
 use Rattle.flat.specs.declared.Node.TheVariants.{Asks}
 use Rattle.flat.proofs.Reading.{header-cases, header_width_lem, node-cases, Says, node_says}
 
@@ -144,7 +144,7 @@ module _ (ws : List ℕ) (width n w : ℕ) where
       (λ d. absurd (broken 9 i e bs (rw d at h)))
       (λ b k d.
       let s = after_arrives b _ e bs (rw d at h) in
-      let low : Says width n i (Asks b k) = rw d at (node_says width n i (word ws i)) in
+      let low : Says width n i (Some (Asks b k)) = rw d at (node_says width n i (word ws i)) in
       let here : eqb j b or is_in j s.0 ≡ true = rw s.2 at t in
       cases (eqb j b) (λ q. rw (eqb-true j b q) (low.0, low.1)) (λ q. path_low fuel (cond (bit w b) k (i + 1)) e s.0 s.1 j (or_e here q)))
       (λ x d. absurd (none_in j bs _ e (rw d at h) t))
@@ -158,7 +158,7 @@ module _ (ws : List ℕ) (width n w : ℕ) where
 -- what a walk that finishes has tested
 pub record Tested (ws : List ℕ) (w : ℕ) (a : Walk) : Type 0 where
   pub nodes : ℕ
-  pub header : header_of (word ws 0) (length ws) ≡ Good (header_width (word ws 0)) nodes
+  pub header : header_of (word ws 0) (length ws) ≡ good (header_width (word ws 0)) nodes
   -- the bits that its path tests, in order
   pub tests : List ℕ
   pub walks : path nodes ws (header_width (word ws 0)) nodes w 1 ≡ arrives a.entry tests
@@ -175,7 +175,7 @@ ended_path (breaks n i) a h = absurd (not_refused (sym h))
 
 module _ (ws : List ℕ) (w : ℕ) (a : Walk) (finishes : walk_of ws w ≡ result a) where
   -- its header is good and w is a word of the width
-  entered : (n : ℕ) × (header_of (word ws 0) (length ws) ≡ Good (header_width (word ws 0)) n) × (ended (path n ws (header_width (word ws 0)) n w 1) ≡ result a)
+  entered : (n : ℕ) × (header_of (word ws 0) (length ws) ≡ good (header_width (word ws 0)) n) × (ended (path n ws (header_width (word ws 0)) n w 1) ≡ result a)
   unfolding walk_of enters
   entered =
       header-cases (header_of (word ws 0) (length ws))

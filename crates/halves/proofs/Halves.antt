@@ -7,6 +7,7 @@ use mathlib.Core.List.{List}
 use lib.Bits.{bit_or}
 use lib.Dec.{ltb}
 use borrow.Author.Tests.{eq-eqb, ltb-true}
+use Rattle.std.specs.Prelude.{Some}
 use Rattle.words.specs.Tests.{◌or◌}
 use Rattle.words.specs.Words.{word, bit}
 use Rattle.words.proofs.Bits.{bit_or_lem, set_own, set_other, set_more, set_upper}
@@ -57,17 +58,17 @@ module _ (es : List Entry) (ws : List ℕ) (width n u : ℕ) where
   pub stands_common : (t : Tree) (c : Cell) (fuel m i : ℕ) → Agrees es c t → Sound width t → Stands ws width n i t → i + size t ≤ m + 1 → free width c.fixed ≤ fuel
       → common_from fuel ws width m u i ≡ common_in t u
   unfolding Agrees Sound Stands size common_from common_in Within
-  stands_common (leaf (names e)) c zero m i g o s k f = rw (node_within width n m i (word ws i) (node.Names e) s tt)
-  stands_common (leaf (names e)) c (suc fuel) m i g o s k f = rw (node_within width n m i (word ws i) (node.Names e) s tt)
-  stands_common (leaf nothing) c zero m i g o s k f = rw (node_within width n m i (word ws i) node.Nothing s tt)
-  stands_common (leaf nothing) c (suc fuel) m i g o s k f = rw (node_within width n m i (word ws i) node.Nothing s tt)
+  stands_common (leaf (names e)) c zero m i g o s k f = rw (node_within width n m i (word ws i) (Some (node.Names e)) s tt)
+  stands_common (leaf (names e)) c (suc fuel) m i g o s k f = rw (node_within width n m i (word ws i) (Some (node.Names e)) s tt)
+  stands_common (leaf nothing) c zero m i g o s k f = rw (node_within width n m i (word ws i) (Some node.Nothing) s tt)
+  stands_common (leaf nothing) c (suc fuel) m i g o s k f = rw (node_within width n m i (word ws i) (Some node.Nothing) s tt)
   stands_common (leaf ambiguous) c fuel m i g o s k f = absurd s
   stands_common (test b l r) c zero m i g o s k f = absurd (let z = free_less c b width o.0 g.0 in omega arith)
   stands_common (test b l r) c (suc fuel) m i g o s k f =
       let z = free_less c b width o.0 g.0 in
       let one : ℕ = i + 1 + size l in
       rw (
-        node_within width n m i (word ws i) (node.Asks b one) s.0 (omega (arith, size_pos r)),
+        node_within width n m i (word ws i) (Some (node.Asks b one)) s.0 (omega (arith, size_pos r)),
         stands_common l (zero_side c b) fuel (one - 1) (i + 1) g.1 o.1 s.1 (omega arith) (omega arith),
         stands_common r (one_side c b) fuel m one g.2 o.2 s.2 (omega arith) (omega arith),
       )

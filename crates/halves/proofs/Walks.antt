@@ -9,6 +9,7 @@ use mathlib.Core.Option.{Option, none, some}
 use lib.Dec.{eqb, ltb}
 use lib.ListN.{length}
 use borrow.Author.Tests.{eqb-true, ltb-true, ltb-false, lt-ltb}
+use Rattle.std.specs.Prelude.{Some}
 use Rattle.words.specs.Words.{word, bit}
 use Rattle.words.specs.Outcome.{result}
 use Rattle.words.proofs.Bits.{bit_upper}
@@ -84,19 +85,19 @@ module _ (u w : ℕ) (upper : w / 2 ^ 16 ≡ u) where
     Arrives fuel i o = (bs : List ℕ) × (path fuel ws width n w i ≡ arrives o bs)
 
     module _ (m i fuel : ℕ) (o : Option ℕ) where
-      at_entry : (e : ℕ) → node_of width m i (word ws i) ≡ node.Names e → shared.Entry e ≡ told o → Arrives (suc fuel) i o
+      at_entry : (e : ℕ) → node_of width m i (word ws i) ≡ Some (node.Names e) → shared.Entry e ≡ told o → Arrives (suc fuel) i o
       unfolding Arrives path Within named_by
-      at_entry e y q = ([], rw (node_within width m n i (word ws i) (node.Names e) y tt, told_one (shared.Entry e) o q))
+      at_entry e y q = ([], rw (node_within width m n i (word ws i) (Some (node.Names e)) y tt, told_one (shared.Entry e) o q))
 
-      at_nothing : node_of width m i (word ws i) ≡ node.Nothing → shared.Nothing ≡ told o → Arrives (suc fuel) i o
+      at_nothing : node_of width m i (word ws i) ≡ Some node.Nothing → shared.Nothing ≡ told o → Arrives (suc fuel) i o
       unfolding Arrives path Within named_by
-      at_nothing y q = ([], rw (node_within width m n i (word ws i) node.Nothing y tt, told_one shared.Nothing o q))
+      at_nothing y q = ([], rw (node_within width m n i (word ws i) (Some node.Nothing) y tt, told_one shared.Nothing o q))
 
-      at_test : (b k : ℕ) → node_of width m i (word ws i) ≡ node.Asks b k → m ≤ n → Arrives fuel (cond (bit w b) k (i + 1)) o → Arrives (suc fuel) i o
+      at_test : (b k : ℕ) → node_of width m i (word ws i) ≡ Some (node.Asks b k) → m ≤ n → Arrives fuel (cond (bit w b) k (i + 1)) o → Arrives (suc fuel) i o
       unfolding Arrives path Within Says
       at_test b k y h (bs, p) =
-          let s : Says width m i (node.Asks b k) = rw y at (node_says width m i (word ws i)) in
-          (b ∷ bs, rw (node_within width m n i (word ws i) (node.Asks b k) y (le_trans s.3 h), p))
+          let s : Says width m i (Some (node.Asks b k)) = rw y at (node_says width m i (word ws i)) in
+          (b ∷ bs, rw (node_within width m n i (word ws i) (Some (node.Asks b k)) y (le_trans s.3 h), p))
 
     -- in a part of the tree that ends with node m
     walks_from : (d m i fuel : ℕ) (o : Option ℕ) → common_from d ws width m u i ≡ told o → i ≤ m → m ≤ n → n < i + fuel → Arrives fuel i o
@@ -112,7 +113,7 @@ module _ (u w : ℕ) (upper : w / 2 ^ 16 ≡ u) where
         node-cases (node_of width m i (word ws i))
         (λ y. absurd (not_told o (rw y at e)))
         (λ b j y.
-        let s : Says width m i (node.Asks b j) = rw y at (node_says width m i (word ws i)) in
+        let s : Says width m i (Some (node.Asks b j)) = rw y at (node_says width m i (word ws i)) in
         let q = side_told b _ _ o (rw y at e) in
         at_test m i fuel o b j y k
         (cases (bit w b)

@@ -1,9 +1,8 @@
 -- What the walks of all words with one upper half name, in any words of a tree (document 02, No. 6).
-use Rattle.std.specs.Prelude.{ℕ, zero, suc, ◌+◌, ◌-◌, ◌*◌, ◌^◌, cond, List, eqb, ltb, length}
+use Rattle.std.specs.Prelude.{ℕ, zero, suc, ◌+◌, ◌-◌, ◌*◌, ◌^◌, cond, List, eqb, ltb, length, Option, Some, None}
 use Rattle.words.specs.Words.{word, bit}
 use Rattle.flat.specs.Nodes.{header_of, node_of}
 use Rattle.flat.specs.declared.Header.{Header}
-use Rattle.flat.specs.declared.Header.TheVariants.{Bad, Good}
 use Rattle.flat.specs.declared.Node.{Node}
 use Rattle.flat.specs.declared.Node.TheVariants as node
 use Rattle.halves.specs.declared.Shared.{Shared}
@@ -32,11 +31,11 @@ from_sides One zs os = os
 from_sides Either zs os = both_of zs os
 
 -- at a node, where `sides` is said of a test; a damaged node names nothing that all could share
-abbrev pub at_node : Node → (ℕ → ℕ → Shared) → Shared
-at_node node.Damaged sides = Several
-at_node (node.Names e) sides = Entry e
-at_node node.Nothing sides = Nothing
-at_node (node.Asks b k) sides = sides b k
+abbrev pub at_node : Option Node → (ℕ → ℕ → Shared) → Shared
+at_node None sides = Several
+at_node (Some (node.Names e)) sides = Entry e
+at_node (Some node.Nothing) sides = Nothing
+at_node (Some (node.Asks b k)) sides = sides b k
 
 -- from index i on, in a part of the tree whose last node is n: a zero side is a part of its own, which ends before the one side, so that
 -- a test in it whose one side lies further on is damaged. At most `fuel` tests deep: "no path tests a bit twice", so that a deeper one is
@@ -48,9 +47,9 @@ common_from (suc fuel) ws width n u i =
     (λ b k. from_sides (side_of u b) (common_from fuel ws width (k - 1) u (i + 1)) (common_from fuel ws width n u k))
 
 -- the whole tree, where every word with this upper half is one of the width
-unfoldable pub common_by : Header → List ℕ → ℕ → Shared
-common_by Bad ws u = Several
-common_by (Good width n) ws u = cond (ltb (2 ^ 16 * u + 65535) (2 ^ width)) (common_from width ws width n u 1) Several
+unfoldable pub common_by : Option Header → List ℕ → ℕ → Shared
+common_by None ws u = Several
+common_by (Some h) ws u = cond (ltb (2 ^ 16 * u + 65535) (2 ^ h.width)) (common_from h.width ws h.width h.nodes u 1) Several
 
 unfoldable pub common_of : List ℕ → ℕ → Shared
 common_of ws u = common_by (header_of (word ws 0) (length ws)) ws u

@@ -1,49 +1,24 @@
 -- Each case of a listing's and a step's answers says another thing, so that the promises fix the answers themselves. Assumes nothing.
 use mathlib.Core.Path.{◌≡◌, refl}
-use mathlib.Core.Bool.{cond}
 use mathlib.Core.Option.{Option, none, some}
 use Prim.Native.Nat.{ℕ}
-use lib.Dec.{eqb}
-use Rattle.words.specs.Outcome.{Outcome, result, faulty, refused}
-use Rattle.words.proofs.Logic.{one_to_one}
-use Rattle.image.specs.Listing.{said_list, Step, said_step}
-use Rattle.image.specs.declared.Listed.{Listed}
-use Rattle.image.specs.declared.Listed.TheVariants as listed
-use Rattle.image.specs.declared.Stepped.{Stepped}
-use Rattle.image.specs.declared.Stepped.TheVariants as stepped
+use Rattle.std.specs.Prelude.{Result, Option as Maybe, Some, None}
+use Rattle.words.specs.declared.Refusal.{Refusal}
+use Rattle.words.proofs.Outcomes.{said_one, said_as_one}
+use Rattle.image.specs.Listing.{said_list, Step, step_given, said_step}
+use Rattle.image.specs.declared.Stepped as handed
 
-back_list : Outcome ℕ → Listed
-back_list (result n) = listed.Items n
-back_list (faulty n p) = listed.Refused n p
-back_list (refused n p w) =
-    cond (eqb n 17) (listed.Full (record { 0 = p })) (cond (eqb n 15) listed.BadTable (cond (eqb n 16) listed.BadImage listed.BadTree))
+pub list_one : (r s : Result ℕ Refusal) → said_list r ≡ said_list s → r ≡ s
+list_one = said_one
 
-list_back : (r : Listed) → back_list (said_list r) ≡ r
-unfolding back_list
-list_back (listed.Items n) = refl
-list_back (listed.Full a) = refl
-list_back listed.BadTable = refl
-list_back listed.BadImage = refl
-list_back listed.BadTree = refl
-list_back (listed.Refused n p) = refl
+back : Option Step → Maybe handed.Stepped
+back none = None
+back (some s) = Some (record { word = s.item.word; next = s.item.next; mask = s.mask })
 
-pub list_one : (r s : Listed) → said_list r ≡ said_list s → r ≡ s
-list_one = one_to_one said_list back_list list_back
+given_back : (o : Maybe handed.Stepped) → back (step_given o) ≡ o
+unfolding back
+given_back None = refl
+given_back (Some s) = refl
 
-back_step : Outcome (Option Step) → Stepped
-back_step (result (some s)) = stepped.Item s.item.word s.item.next s.mask
-back_step (result none) = stepped.End
-back_step (faulty n p) = stepped.Refused n p
-back_step (refused n p w) = cond (eqb n 15) stepped.BadTable (cond (eqb n 16) stepped.BadImage stepped.BadTree)
-
-step_back : (r : Stepped) → back_step (said_step r) ≡ r
-unfolding back_step
-step_back (stepped.Item w a m) = refl
-step_back stepped.End = refl
-step_back stepped.BadTable = refl
-step_back stepped.BadImage = refl
-step_back stepped.BadTree = refl
-step_back (stepped.Refused n p) = refl
-
-pub step_one : (r s : Stepped) → said_step r ≡ said_step s → r ≡ s
-step_one = one_to_one said_step back_step step_back
+pub step_one : (r s : Result (Maybe handed.Stepped) Refusal) → said_step r ≡ said_step s → r ≡ s
+step_one = said_as_one step_given back given_back

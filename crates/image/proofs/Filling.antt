@@ -1,16 +1,17 @@
 -- The loop that fills the buffer. Assumes nothing.
 use mathlib.Core.Path.{◌≡◌, refl, sym, ap, ◌∙◌}
 use mathlib.Core.List.{List, [], ◌∷◌, ◌++◌, append-nil}
-use Prim.Native.Nat.{ℕ, zero, suc, ◌+◌, ◌-◌, ◌^◌, ◌≤◌, ◌<◌, suc-le-suc, zero-le}
+use Prim.Native.Nat.{ℕ, zero, suc, ◌^◌, ◌≤◌, ◌<◌, suc-le-suc, zero-le}
 use native.Mathlib.Omega.{arith}
 use borrow.Author.Tests.{le-leb, lt-leb}
 use lib.ListN.{length, get_or, set, take, drop, length-drop, length-set, drop_of_length-le}
 use lib.Seq.{take_all, take-suc, drop-cons, set_at, append_snoc, length-take-le}
+use Rattle.std.specs.Prelude.{Ok, Err}
 use Rattle.words.specs.Words.{bits}
+use Rattle.words.specs.declared.Refusal.TheVariants.{Full}
 use Rattle.table.specs.Table.{Entry}
 use Rattle.image.specs.declared.HalfwordAddress.{HalfwordAddress}
 use Rattle.image.specs.declared.Item.{Item}
-use Rattle.image.specs.declared.Listed.TheVariants.{Items, Full}
 use Rattle.image.specs.Address.{halfwords}
 use Rattle.image.specs.Items.{item_at, items}
 use Rattle.image.specs.Listing.{counted, filled_with}
@@ -40,7 +41,7 @@ put is buffer n x hi hb e =
 -- ---- a listing that ends
 
 module _ (is buffer : List ℕ) (n : ℕ) (room : n ≤ length buffer) where
-  pub all_filled : n ≤ length is → drop n is ≡ [] → Fills is buffer (take n is ++ drop n buffer) (Items n)
+  pub all_filled : n ≤ length is → drop n is ≡ [] → Fills is buffer (take n is ++ drop n buffer) (Ok n)
   unfolding counted filled_with
   all_filled part e =
       let k : length is ≤ n = no_more is n e in
@@ -51,7 +52,7 @@ module _ (is buffer : List ℕ) (n : ℕ) (room : n ≤ length buffer) where
       }
 
   pub full_filled : length buffer ≤ n → (x : ℕ) (rest : List ℕ) → drop n is ≡ x ∷ rest → (a : HalfwordAddress) → bits 19 0 x ≡ a.0
-      → Fills is buffer (take n is ++ drop n buffer) (Full a)
+      → Fills is buffer (take n is ++ drop n buffer) (Err (Full a.0))
   unfolding counted filled_with
   full_filled full x rest e a p =
       let r = next_of is n x rest e in
@@ -97,25 +98,13 @@ module _ (es : List Entry) (image buffer : List ℕ) where
           within = l;
         })
 
-    pub filling_all : halfwords image ≤ a.0 → Fills is buffer out (Items n)
+    pub filling_all : halfwords image ≤ a.0 → Fills is buffer out (Ok n)
     filling_all h =
         let e : drop n is ≡ [] = f.rest ∙ on_end es image a h in
         rw f.filled (all_filled is buffer n f.room f.part e)
 
-    pub filling_full : a.0 < halfwords image → halfwords image ≤ 2 ^ 20 → length out ≤ n → Fills is buffer out (Full a)
+    pub filling_full : a.0 < halfwords image → halfwords image ≤ 2 ^ 20 → length out ≤ n → Fills is buffer out (Err (Full a.0))
     filling_full h k l =
         let e = f.rest ∙ on_item es image a h in
         let full : length buffer ≤ n = let s = f.same in omega arith in
         rw f.filled (full_filled is buffer n f.room full _ _ e a ((leads es image a h).place (omega arith)))
-
-  -- the last halfword is the last item
-  pub filling_last : (out : List ℕ) (a : HalfwordAddress) (n : ℕ) → Filling out a n → a.0 + 1 ≡ halfwords image → n < length out
-      → (i : Item) → i ≡ item_at es image a → Fills is buffer (set out n i.word) (Items (suc n))
-  filling_last out a n f last l i e =
-      let h : a.0 < halfwords image = omega arith in
-      let m : a.0 < i.next.0 = rw e (leads es image a h).more in
-      filling_all (set out n i.word) i.next (suc n) (filling_more out a n f h l i e) (omega arith)
-
-  -- each item leads on
-  pub filling_less : (a : HalfwordAddress) → a.0 < halfwords image → (i : Item) → i ≡ item_at es image a → halfwords image - i.next.0 < halfwords image - a.0
-  filling_less a h i e = let m = (leads es image a h).more in rw e (omega arith)

@@ -6,14 +6,15 @@
 --     zeros_mask     the mask handed on for it
 --     full_words     every other item
 --     found_in_tree     what the code finds in a tree that the checker accepts
-use Prim.Native.Nat.{ℕ, ◌+◌, ◌*◌, ◌%◌, ◌^◌, ◌≤◌, ◌<◌}
+use Prim.Native.Nat.{ℕ, ◌+◌, ◌*◌, ◌%◌, ◌^◌, ◌<◌}
+use native.Mathlib.Nat.{add-zero}
 use native.Mathlib.Omega.{arith}
 use mathlib.Core.Path.{◌≡◌, sym, ap, ◌∙◌}
 use mathlib.Core.Logic.{◌↔◌}
 use mathlib.Core.Bool.{true}
 use mathlib.Core.List.{List}
 use lib.Dec.{eqb}
-use lib.ListN.{length, get_or-eq_default}
+use lib.ListN.{length}
 use borrow.Author.Tests.{eq-eqb, eqb-true}
 use Rattle.words.specs.Outcome.{result}
 use Rattle.words.proofs.Logic.{cases}
@@ -35,7 +36,7 @@ use Rattle.image.specs.declared.Picked.TheVariants.{Short, Nothing, Cut}
 use Rattle.image.specs.Address.{halfword_at, word_at, halfwords}
 use Rattle.image.specs.Items.{picked, all_same, last_by, last_picked, found_word, nothing_word, cut_word, item_of, item_at}
 use Rattle.image.specs.Listing.{handed_on}
-use Rattle.image.proofs.Leading.{item_full, item_last}
+use Rattle.image.proofs.Leading.{last_word, item_full, item_last}
 use Rattle.image.proofs.Picking.{same_all, last_all}
 
 -- ---- the words of items differ
@@ -158,11 +159,8 @@ module _ (es : List Entry) (image : List ℕ) (a : HalfwordAddress) where
   -- "The mask handed on for such an item is that of the word with zeros below" (an image has whole halfwords, else it is refused with 16)
   pub zeros_mask : length image % 2 ≡ 0 → a.0 + 1 ≡ halfwords image → (tree : List ℕ)
       → (handed_on es tree image a).mask ≡ mask_or_zero (walk_of tree (2 ^ 16 * halfword_at image a))
-  unfolding handed_on word_at halfword_at
-  zeros_mask even last tree =
-      let low : length image ≤ 2 * (a.0 + 1) = omega arith in
-      let high : length image ≤ 2 * (a.0 + 1) + 1 = omega arith in
-      ap (λ (x : ℕ). mask_or_zero (walk_of tree x)) (rw (get_or-eq_default image 0 low, get_or-eq_default image 0 high) (omega arith))
+  unfolding handed_on
+  zeros_mask even last tree = ap (λ (x : ℕ). mask_or_zero (walk_of tree x)) (sym (last_word image a even last) ∙ add-zero _)
 
   -- "full words read as before"
   pub full_words : a.0 + 1 < halfwords image → item_at es image a ≡ item_of (picked es (word_at image a)) a (halfwords image)

@@ -1,11 +1,12 @@
 -- Laws of items: each leads on, and what they are from an address on. Assumes nothing.
 use mathlib.Core.Path.{◌≡◌, refl, ap, ◌∙◌}
 use mathlib.Core.List.{List, [], ◌∷◌}
-use Prim.Native.Nat.{ℕ, zero, suc, ◌+◌, ◌-◌, ◌*◌, ◌^◌, ◌≤◌, ◌<◌}
+use Prim.Native.Nat.{ℕ, zero, suc, ◌+◌, ◌-◌, ◌*◌, ◌%◌, ◌^◌, ◌≤◌, ◌<◌}
 use native.Mathlib.Nat.{le_refl}
 use native.Mathlib.Omega.{arith}
 use borrow.Author.Tests.{lt-ltb, le-ltb, ltb-true}
 use lib.Dec.{eqb, ltb}
+use lib.ListN.{length, get_or-eq_default}
 use Rattle.words.specs.Words.{part, bits}
 use Rattle.words.proofs.Logic.{cases}
 use Rattle.table.specs.Table.{Entry, entry_number}
@@ -15,7 +16,7 @@ use Rattle.image.specs.declared.HalfwordAddress.{HalfwordAddress}
 use Rattle.image.specs.declared.Item.{Item}
 use Rattle.image.specs.declared.Picked.{Picked}
 use Rattle.image.specs.declared.Picked.TheVariants.{Short, Long, Nothing, Cut}
-use Rattle.image.specs.Address.{after, halfword_at, word_at, halfwords}
+use Rattle.image.specs.Address.{halfword_at, word_at, halfwords}
 use Rattle.image.specs.Items.{picked, all_same, last_by, last_picked, picked_at, found_word, nothing_word, cut_word, item_of, item_at, items_from, items}
 
 -- ---- an item
@@ -41,24 +42,13 @@ item_leads (Long e) a n h full = leads_of a n (12 * 2 ^ 8 + e) _ (omega arith) (
 item_leads Nothing a n h full = leads_of a n (13 * 2 ^ 8) _ (omega arith) (omega arith) (omega arith)
 item_leads Cut a n h full = leads_of a n (14 * 2 ^ 8) _ (omega arith) (omega arith) (omega arith)
 
--- what item_of makes
-module _ (p : Picked) (a : HalfwordAddress) (n w : ℕ) where
-  pub item_nothing : p ≡ Nothing → w ≡ nothing_word a → record { word = w; next = after a 1 } ≡ item_of p a n
-  unfolding item_of
-  item_nothing e q = rw (e, q) refl
-
-  pub item_cut : p ≡ Cut → w ≡ cut_word a → record { word = w; next = record { 0 = n } } ≡ item_of p a n
-  unfolding item_of
-  item_cut e q = rw (e, q) refl
-
-  module _ (x : ℕ) where
-    pub item_short : p ≡ Short x → w ≡ found_word x a → record { word = w; next = after a 1 } ≡ item_of p a n
-    unfolding item_of
-    item_short e q = rw (e, q) refl
-
-    pub item_long : p ≡ Long x → w ≡ found_word x a → record { word = w; next = after a 2 } ≡ item_of p a n
-    unfolding item_of
-    item_long e q = rw (e, q) refl
+-- a missing lower half reads as zero: the word of the last halfword of an image that has whole ones
+pub last_word : (image : List ℕ) (a : HalfwordAddress) → length image % 2 ≡ 0 → a.0 + 1 ≡ halfwords image → 2 ^ 16 * halfword_at image a + 0 ≡ word_at image a
+unfolding word_at halfword_at
+last_word image a even last =
+    let low : length image ≤ 2 * (a.0 + 1) = omega arith in
+    let high : length image ≤ 2 * (a.0 + 1) + 1 = omega arith in
+    rw (get_or-eq_default image 0 low, get_or-eq_default image 0 high) refl
 
 -- ---- what the image says: a 32-bit entry only where the word is full
 

@@ -1,3 +1,4 @@
+pub mod Order
 pub mod Leading
 pub mod LastHalfword
 pub mod InParts

@@ -1,19 +1,17 @@
 -- A whole listing, and a step ('Checker and images', 'Causes, numbers, places').
-use Rattle.std.specs.Prelude.{ℕ, ◌%◌, Bool, true, false, cond, ◌≡◌, List, ◌++◌, leb, eqb, length, take, drop}
+use Rattle.std.specs.Prelude.{ℕ, ◌%◌, Bool, true, false, cond, ◌≡◌, List, ◌++◌, leb, eqb, length, take, drop, Result, Option as Maybe, Some, None}
 use Rattle.std.proofs.Math.Option.{Option, none, some}
 use Rattle.words.specs.Tests.{◌and◌, ◌or◌, all_of}
 use Rattle.words.specs.Words.{word, bits}
-use Rattle.words.specs.Outcome.{Outcome, result, faulty, refused}
+use Rattle.words.specs.Outcome.{Outcome, result, faulty, refused, said, said_as}
+use Rattle.words.specs.declared.Refusal.{Refusal}
 use Rattle.table.specs.Table.{Entry, Table}
 use Rattle.table.specs.Check.{read_table}
 use Rattle.flat.specs.Walk.{walk_of, mask_or_zero}
 use Rattle.checker.specs.Checker.{accepts}
 use Rattle.image.specs.declared.HalfwordAddress.{HalfwordAddress}
 use Rattle.image.specs.declared.Item.{Item}
-use Rattle.image.specs.declared.Listed.{Listed}
-use Rattle.image.specs.declared.Listed.TheVariants as listed
-use Rattle.image.specs.declared.Stepped.{Stepped}
-use Rattle.image.specs.declared.Stepped.TheVariants as stepped
+use Rattle.image.specs.declared.Stepped as handed
 use Rattle.image.specs.Address.{word_at, halfwords}
 use Rattle.image.specs.Items.{item_at, items}
 
@@ -72,16 +70,11 @@ unfoldable pub buffer_of : Outcome Table → List ℕ → List ℕ → List ℕ 
 buffer_of r tree image buffer = buffer_from (admitted r tree image) image buffer
 
 -- the paper's number and values for each case of the answer
-abbrev pub said_list : Listed → Outcome ℕ
-said_list (listed.Items n) = result n
-said_list (listed.Full a) = refused 17 a.0 0
-said_list listed.BadTable = refused 15 0 0
-said_list listed.BadImage = refused 16 0 0
-said_list listed.BadTree = refused 14 0 0
-said_list (listed.Refused number place) = faulty number place
+abbrev pub said_list : Result ℕ Refusal → Outcome ℕ
+said_list = said
 
 -- listing answers what the definition says, and the whole buffer is as the definition says
-pub record Lists (ws tree image before after : List ℕ) (r : Listed) : Type 0 where
+pub record Lists (ws tree image before after : List ℕ) (r : Result ℕ Refusal) : Type 0 where
   pub answer : said_list r ≡ list_of (read_table ws) tree image (length before)
   pub buffer : after ≡ buffer_of (read_table ws) tree image before
 
@@ -106,11 +99,11 @@ step_from (result es) tree image a = result (cond (leb (halfwords image) a.0) no
 unfoldable pub step_of : Outcome Table → List ℕ → List ℕ → HalfwordAddress → Outcome (Option Step)
 step_of r tree image a = step_from (admitted r tree image) tree image a
 
+-- what the code hands on, as a step
+abbrev pub step_given : Maybe handed.Stepped → Option Step
+step_given None = none
+step_given (Some s) = some (record { item = record { word = s.word; next = s.next }; mask = s.mask })
+
 -- the paper's number and values for each case of the answer
-abbrev pub said_step : Stepped → Outcome (Option Step)
-said_step (stepped.Item w a m) = result (some (record { item = record { word = w; next = a }; mask = m }))
-said_step stepped.End = result none
-said_step stepped.BadTable = refused 15 0 0
-said_step stepped.BadImage = refused 16 0 0
-said_step stepped.BadTree = refused 14 0 0
-said_step (stepped.Refused number place) = faulty number place
+abbrev pub said_step : Result (Maybe handed.Stepped) Refusal → Outcome (Option Step)
+said_step = said_as step_given

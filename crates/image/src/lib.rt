@@ -1,44 +1,46 @@
 // The lister: an image of halfwords, item by item, by a table and a tree that the checker accepts for it.
 #![tactic(auto)]
 
-ghost use Rattle.std.specs.Prelude.{◌≡◌, ◌≤◌, ◌^◌};
-ghost use Rattle.words.specs.Outcome.{cause_of, result as answered};
-ghost use Rattle.table.specs.Table.{table_of};
+ghost use Rattle.std.specs.Prelude.{◌≡◌, ◌+◌, ◌^◌, ◌<◌};
 ghost use Rattle.table.specs.Check.{read_table};
-ghost use Rattle.image.specs.Address.{offset_of, halfwords as halfwords_of};
-ghost use Rattle.image.specs.Listing.{said_list, step_from, step_of, said_step, Lists};
-ghost use Rattle.image.specs.Parts.{Admitted};
+ghost use Rattle.image.specs.Address.{offset_of, after};
+ghost use Rattle.image.specs.Listing.{step_of, said_step, Lists};
 
-use words::Cause;
+use words::Refusal;
 
 mod lister;
 mod refusals;
 
 // Counts 16-bit words of the image.
-#[derive(Clone, Copy)]
+#[derive(Clone, Copy, PartialEq, Eq, PartialOrd, Ord)]
 pub struct HalfwordAddress(pub u32);
 
 // Counts bytes of the image.
-#[derive(Clone, Copy)]
+#[derive(Clone, Copy, PartialEq, Eq, PartialOrd, Ord)]
 pub struct ByteOffset(pub u64);
 
 // The one conversion.
-pub fn byte_offset(a: HalfwordAddress) -> ByteOffset
-    ensures { result ≡ offset_of a }
-{
-    ByteOffset(2 * (a.0 as u64))
+impl From<HalfwordAddress> for ByteOffset {
+    ghost from_gives = { λ a o. o ≡ offset_of a };
+
+    fn from(a: HalfwordAddress) -> ByteOffset {
+        ByteOffset(2 * (a.0 as u64))
+    }
 }
 
-// How many halfwords an image has: the address at its end.
-fn halfwords(image: &[u8]) -> u32
-    requires { halfwords_of image.now ≤ 2 ^ 20 }
-    ensures { result ≡ halfwords_of image.now }
-{
-    (image.len() / 2) as u32
+impl HalfwordAddress {
+    // So many halfwords on.
+    fn after(self, n: u32) -> HalfwordAddress
+        requires { self.0 + n < 2 ^ 32 }
+        ensures { result ≡ after self n }
+    {
+        HalfwordAddress(self.0 + n)
+    }
 }
 
 // What the image says at an address: an entry, by its length of 16 bits or 32; nothing; or, at the last halfword, that it is cut.
-#[derive(Drop)]
+// kept: the definition's own cases, none of them a failure
+#[derive(Clone, Copy)]
 enum Picked {
     Short(u8),
     Long(u8),
@@ -47,139 +49,46 @@ enum Picked {
 }
 
 // An item's word, and the address after it.
-#[derive(Drop)]
+#[derive(Clone, Copy)]
 struct Item {
     pub word: u32,
     pub next: HalfwordAddress,
 }
 
-// What refuses a listing and a step alike; ready where nothing does.
-#[derive(Drop)]
-enum Refusal {
-    Ready,
-    BadTable,
-    BadImage,
-    BadTree,
-    Refused(u32, u32),
-}
-
-// What refuses, and beside it the place of each entry of a table without fault.
-#[derive(Drop)]
-struct Admission {
-    pub refusal: Refusal,
-    pub places: [u32; 256],
-}
-
-// What a whole listing answers: the number of items; or why not: more items than the buffer takes, with the address of the first left
-// out (17), the table (15), the image (16), the tree (14), or the number and place of the table's first fault (1 to 4).
-#[derive(Clone, Copy)]
-pub enum Listed {
-    Items(u32),
-    Full(HalfwordAddress),
-    BadTable,
-    BadImage,
-    BadTree,
-    Refused(u32, u32),
-}
-
-impl Listed {
-    // Number, place and word of what refuses.
-    pub fn cause(self) -> Cause
-        ensures { result ≡ cause_of (said_list self) }
-    {
-        match self {
-            Listed::Items(_) => Cause::of(0, 0, 0),
-            Listed::Full(address) => Cause::of(17, address.0, 0),
-            Listed::BadTable => Cause::of(15, 0, 0),
-            Listed::BadImage => Cause::of(16, 0, 0),
-            Listed::BadTree => Cause::of(14, 0, 0),
-            Listed::Refused(number, place) => Cause::of(number, place, 0),
-        }
-    }
-}
-
-// Lists a whole image into the buffer.
-pub fn list(table: &[u32], tree: &[u32], image: &[u8], out: &mut [u32]) -> Listed
+// Lists a whole image into the buffer, and answers the number of items. What refuses it: the table's first fault (1 to 4), the table (15),
+// the image (16), the tree (14), or more items than the buffer takes, with the address of the first left out (17).
+pub fn list(table: &[u32], tree: &[u32], image: &[u8], out: &mut [u32]) -> Result<u32, Refusal>
     ensures { Lists table.now tree.now image.now out.old out.new result }
 {
-    let admission = refusals::admit(table, tree, image);
-    let refusal = admission.refusal;
-    let places = admission.places;
-    match refusal {
-        Refusal::BadTable => Listed::BadTable,
-        Refusal::BadImage => Listed::BadImage,
-        Refusal::BadTree => Listed::BadTree,
-        Refusal::Refused(number, place) => Listed::Refused(number, place),
-        Refusal::Ready => lister::fill(table, &places, tree, image, out),
-    }
+    // kept: the three slices of the public calls, as C lends them
+    let admitted = refusals::admit(table, tree, image)?;
+    admitted.fill(out)
 }
 
-// What a step answers: the item's word, the address after it and the item's mask, or the end; or why not, as a listing does but
-// for 17.
-#[derive(Clone, Copy)]
-pub enum Stepped {
-    Item(u32, HalfwordAddress, u32),
-    End,
-    BadTable,
-    BadImage,
-    BadTree,
-    Refused(u32, u32),
+// What a step gives: the item's word, the address after it and the item's mask.
+#[derive(Clone, Copy, PartialEq, Eq)]
+pub struct Stepped {
+    pub word: u32,
+    pub next: HalfwordAddress,
+    pub mask: u32,
 }
 
-impl Stepped {
-    // Number, place and word of what refuses.
-    pub fn cause(self) -> Cause
-        ensures { result ≡ cause_of (said_step self) }
-    {
-        match self {
-            Stepped::Item(_, _, _) => Cause::of(0, 0, 0),
-            Stepped::End => Cause::of(0, 0, 0),
-            Stepped::BadTable => Cause::of(15, 0, 0),
-            Stepped::BadImage => Cause::of(16, 0, 0),
-            Stepped::BadTree => Cause::of(14, 0, 0),
-            Stepped::Refused(number, place) => Cause::of(number, place, 0),
-        }
-    }
-}
-
-// The step where nothing is refused.
-fn step_ready(
-    table: &[u32],
-    places: &[u32; 256],
-    tree: &[u32],
+// The step at an address; none at the end. It is refused as a listing is, but for 17.
+fn step_at(
     image: &[u8],
     at: HalfwordAddress,
-) -> Stepped
-    requires { Admitted table.now places.now tree.now image.now }
-    ensures { said_step result ≡ step_from (answered (table_of table.now).entries) tree.now image.now at }
-{
-    let end = halfwords(image);
-    if end <= at.0 {
-        return Stepped::End;
-    }
-    let item = lister::item_at(table, places, tree, image, at);
-    let next = item.next;
-    let mask = lister::mask_at(tree, image, at);
-    Stepped::Item(item.word, next, mask)
-}
-
-// The step at an address.
-fn step_at(image: &[u8], at: HalfwordAddress, table: &[u32], tree: &[u32]) -> Stepped
+    table: &[u32],
+    tree: &[u32],
+) -> Result<Option<Stepped>, Refusal>
     ensures { said_step result ≡ step_of (read_table table.now) tree.now image.now at }
 {
-    let admission = refusals::admit(table, tree, image);
-    let refusal = admission.refusal;
-    let places = admission.places;
-    match refusal {
-        Refusal::BadTable => Stepped::BadTable,
-        Refusal::BadImage => Stepped::BadImage,
-        Refusal::BadTree => Stepped::BadTree,
-        Refusal::Refused(number, place) => Stepped::Refused(number, place),
-        Refusal::Ready => step_ready(table, &places, tree, image, at),
-    }
+    // kept: the three slices of the public calls, as C lends them
+    let admitted = refusals::admit(table, tree, image)?;
+    Ok(admitted.step(at))
 }
 
 // A cursor over an image: its slice and an address.
+// kept: functions over it and no methods, as document 01 asks
 #[derive(Clone, Copy)]
 pub struct Cursor<'a> {
     pub image: &'a [u8],
@@ -201,16 +110,26 @@ pub fn moved<'a>(c: Cursor<'a>, at: HalfwordAddress) -> Cursor<'a>
 }
 
 // The step at the cursor.
-pub fn next_item<'a, 'b, 'c>(c: Cursor<'a>, table: &'b [u32], tree: &'c [u32]) -> Stepped
+pub fn next_item<'a, 'b, 'c>(
+    c: Cursor<'a>,
+    table: &'b [u32],
+    tree: &'c [u32],
+) -> Result<Option<Stepped>, Refusal>
     ensures { said_step result ≡ step_of (read_table table.now) tree.now c.entry.image.now c.entry.at }
 {
     step_at(c.image, c.at, table, tree)
 }
 
 // One step, at an address of an image.
-pub fn step(table: &[u32], tree: &[u32], image: &[u8], at: HalfwordAddress) -> Stepped
+pub fn step(
+    table: &[u32],
+    tree: &[u32],
+    image: &[u8],
+    at: HalfwordAddress,
+) -> Result<Option<Stepped>, Refusal>
     ensures { said_step result ≡ step_of (read_table table.now) tree.now image.now at }
 {
+    // kept: the three slices of the public calls, as C lends them
     let start = HalfwordAddress(0);
     next_item(moved(cursor_at(image, start), at), table, tree)
 }

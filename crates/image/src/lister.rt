@@ -1,261 +1,228 @@
 // The items of an image: the word at an address, what it selects, the item that this makes, and all items in a row.
-ghost use Rattle.std.specs.Prelude.{◌≡◌, ◌+◌, ◌*◌, ◌^◌, ◌≤◌, ◌<◌, eqb, get_or};
+ghost use Rattle.std.specs.Prelude.{◌≡◌, ◌+◌, ◌*◌, ◌^◌, ◌%◌, ◌≤◌, ◌<◌, true, eqb, length};
+ghost use Rattle.words.specs.Words.{word, bits};
+ghost use Rattle.words.specs.Kinds.{kind_number};
+ghost use Rattle.words.specs.Outcome.{result as answered};
 ghost use Rattle.table.specs.Table.{entry_number, table_of};
 ghost use Rattle.flat.specs.Walk.{walk_of, mask_or_zero};
+ghost use Rattle.checker.specs.Checker.{accepts};
 ghost use Rattle.image.specs.Address.{halfword_at, word_at, halfwords as halfwords_of};
-ghost use Rattle.image.specs.Items.{picked, last_picked, found_word, nothing_word, cut_word, item_of, item_at, items};
-ghost use Rattle.image.specs.Parts.{Placed, Usable, Admitted, Fills};
+ghost use Rattle.image.specs.Items.{picked, last_picked, picked_at, item_of, item_at, items};
+ghost use Rattle.image.specs.Listing.{step_from, said_step};
 
-use crate::{ByteOffset, HalfwordAddress, Item, Listed, Picked, byte_offset, halfwords};
+use crate::{ByteOffset, HalfwordAddress, Item, Picked, Stepped};
 use halves::Shared;
-use walker::Walked;
+use table::Table;
+use words::{Kind, Refusal};
 
-// The byte at an offset; zero past the end.
-fn byte_at(image: &[u8], o: ByteOffset) -> u8
-    ensures { result ≡ get_or image.now o.0 0 }
-{
-    let i = o.0 as usize;
-    if image.len() <= i {
-        return 0;
-    }
-    image[i]
+// What a listing takes: a table for images, a tree that the checker accepts for it, and an image of whole halfwords, and not too many.
+#[derive(Clone, Copy)]
+pub struct Admitted<'a> {
+    pub table: Table<'a>,
+    pub tree: &'a [u32],
+    pub image: &'a [u8],
+    ghost wide: { table.width ≡ 32 },
+    ghost right: { accepts (table_of table.entries.words.now).entries 32 tree.now ≡ true },
+    ghost even: { length image.now % 2 ≡ 0 },
+    ghost short: { length image.now ≤ 2097152 },
 }
 
-// The halfword of two bytes.
-fn joined(low: u8, high: u8) -> u16
-    ensures { result ≡ low + 2 ^ 8 * high }
+// The length of the entry at a place.
+pub fn size_at(table: &[u32], place: u32) -> u32
+    ensures { result ≡ bits 15 8 (word table.now place) }
 {
-    (low as u16) | ((high as u16) << 8)
-}
-
-// The halfword at an address.
-fn halfword(image: &[u8], a: HalfwordAddress) -> u16
-    ensures { result ≡ halfword_at image.now a }
-{
-    let o = byte_offset(a);
-    joined(byte_at(image, o), byte_at(image, ByteOffset(o.0 + 1)))
+    words::part(words::word_at(table, place as usize), 8, 8)
 }
 
 // The word of two halfwords.
 fn both_halves(upper: u16, lower: u16) -> u32
     ensures { result ≡ 2 ^ 16 * upper + lower }
 {
-    (lower as u32) | ((upper as u32) << 16)
+    // kept: the library joins bytes, not halfwords
+    u32::from(lower) | (u32::from(upper) << 16)
 }
 
-// The word at an address; a missing lower half reads as zero.
-fn word(image: &[u8], a: HalfwordAddress) -> u32
+// An item's word: its kind, an entry and its address.
+fn item_word(kind: Kind, entry: u8, a: HalfwordAddress) -> u32
     requires { a.0 < 2 ^ 20 }
-    ensures { result ≡ word_at image.now a }
+    ensures { result ≡ kind_number kind * 2 ^ 28 + entry * 2 ^ 20 + a.0 }
 {
-    both_halves(
-        halfword(image, a),
-        halfword(image, HalfwordAddress(a.0 + 1)),
-    )
-}
-
-// The halfword at an address before the image's end: its bytes are there, and are not tested for it.
-fn present_half(image: &[u8], a: HalfwordAddress) -> u16
-    requires { a.0 < halfwords_of image.now }
-    ensures { result ≡ halfword_at image.now a }
-{
-    let o = byte_offset(a);
-    let low = o.0 as usize;
-    joined(image[low], image[low + 1])
-}
-
-// The full word at an address.
-fn full_word(image: &[u8], a: HalfwordAddress) -> u32
-    requires { (a.0 + 1 < halfwords_of image.now) × (halfwords_of image.now ≤ 2 ^ 20) }
-    ensures { result ≡ word_at image.now a }
-{
-    both_halves(
-        present_half(image, a),
-        present_half(image, HalfwordAddress(a.0 + 1)),
-    )
-}
-
-// Whether an entry has 16 bits.
-fn is_short(table: &[u32], places: &[u32; 256], e: u8) -> bool
-    requires { Placed table.now places.now e }
-    ensures { result ≡ eqb (entry_number (table_of table.now).entries e).size 16 }
-{
-    let head = words::word_at(table, places[e as usize] as usize);
-    words::part(head, 8, 8) == 16
-}
-
-// What a word selects. An accepted tree refuses no word, so that the last case is never met.
-fn pick(table: &[u32], places: &[u32; 256], tree: &[u32], w: u32) -> Picked
-    requires { Usable table.now places.now tree.now }
-    ensures { result ≡ picked (table_of table.now).entries w }
-{
-    match walker::walk(tree, w) {
-        Walked::Entry(entry, _, _) => {
-            let e = entry as u8;
-            if is_short(table, places, e) {
-                return Picked::Short(e);
-            }
-            Picked::Long(e)
-        }
-        Walked::Nothing(_, _) => Picked::Nothing,
-        Walked::Unfinished(_, _) => Picked::Nothing,
-    }
-}
-
-// What all words with this upper half select.
-fn pick_last(table: &[u32], places: &[u32; 256], tree: &[u32], upper: u16) -> Picked
-    requires { Usable table.now places.now tree.now }
-    ensures { result ≡ last_picked (table_of table.now).entries upper }
-{
-    match halves::in_common(tree, upper) {
-        Shared::Entry(e) => {
-            if is_short(table, places, e) {
-                return Picked::Short(e);
-            }
-            Picked::Cut
-        }
-        Shared::Nothing => Picked::Nothing,
-        Shared::Several => Picked::Cut,
-    }
-}
-
-// Kind 12: an entry.
-fn found_word(e: u8, a: HalfwordAddress) -> u32
-    requires { a.0 < 2 ^ 20 }
-    ensures { result ≡ found_word e a }
-{
-    (a.0 | ((e as u32) << 20)) | (12 << 28)
-}
-
-// Kind 13: nothing.
-fn nothing_word(a: HalfwordAddress) -> u32
-    requires { a.0 < 2 ^ 20 }
-    ensures { result ≡ nothing_word a }
-{
-    a.0 | (13 << 28)
-}
-
-// Kind 14: a word that lacks its second half.
-fn cut_word(a: HalfwordAddress) -> u32
-    requires { a.0 < 2 ^ 20 }
-    ensures { result ≡ cut_word a }
-{
-    a.0 | (14 << 28)
+    a.0 | (u32::from(entry) << 20) | kind.word()
 }
 
 // The item of what an image that ends at end says at an address.
-fn item_of(p: Picked, a: HalfwordAddress, end: u32) -> Item
-    requires { (a.0 < end) × (end ≤ 2 ^ 20) }
-    ensures { result ≡ item_of p a end }
+fn item_of(p: Picked, a: HalfwordAddress, end: HalfwordAddress) -> Item
+    requires { (a.0 < end.0) × (end.0 ≤ 2 ^ 20) }
+    ensures { result ≡ item_of p a end.0 }
 {
+    // kept: each case makes another item
     match p {
         Picked::Nothing => Item {
-            word: nothing_word(a),
-            next: HalfwordAddress(a.0 + 1),
+            word: item_word(Kind::NothingItem, 0, a),
+            next: a.after(1),
         },
         Picked::Short(e) => Item {
-            word: found_word(e, a),
-            next: HalfwordAddress(a.0 + 1),
+            word: item_word(Kind::FoundItem, e, a),
+            next: a.after(1),
         },
         Picked::Long(e) => Item {
-            word: found_word(e, a),
-            next: HalfwordAddress(a.0 + 2),
+            word: item_word(Kind::FoundItem, e, a),
+            next: a.after(2),
         },
         Picked::Cut => Item {
-            word: cut_word(a),
-            next: HalfwordAddress(end),
+            word: item_word(Kind::CutItem, 0, a),
+            next: end,
         },
     }
 }
 
-// The item of a full word.
-fn full_item(
-    table: &[u32],
-    places: &[u32; 256],
-    tree: &[u32],
-    image: &[u8],
-    a: HalfwordAddress,
-) -> Item
-    requires { Admitted table.now places.now tree.now image.now × (a.0 + 1 < halfwords_of image.now) }
-    ensures { result ≡ item_at (table_of table.now).entries image.now a }
-{
-    let end = halfwords(image);
-    item_of(pick(table, places, tree, full_word(image, a)), a, end)
-}
+impl<'a> Admitted<'a> {
+    ghost use Rattle.image.specs.Parts.{entries_of, Fills};
 
-// The item of the image's last halfword.
-fn last_item(
-    table: &[u32],
-    places: &[u32; 256],
-    tree: &[u32],
-    image: &[u8],
-    a: HalfwordAddress,
-) -> Item
-    requires { Admitted table.now places.now tree.now image.now × (a.0 + 1 ≡ halfwords_of image.now) }
-    ensures { result ≡ item_at (table_of table.now).entries image.now a }
-{
-    let end = halfwords(image);
-    let upper = present_half(image, a);
-    item_of(pick_last(table, places, tree, upper), a, end)
-}
-
-// The item at an address before the image's end.
-pub fn item_at(
-    table: &[u32],
-    places: &[u32; 256],
-    tree: &[u32],
-    image: &[u8],
-    a: HalfwordAddress,
-) -> Item
-    requires { Admitted table.now places.now tree.now image.now × (a.0 < halfwords_of image.now) }
-    ensures { result ≡ item_at (table_of table.now).entries image.now a }
-{
-    let end = halfwords(image);
-    if a.0 + 1 == end {
-        return last_item(table, places, tree, image, a);
+    // The address at the image's end.
+    fn end(&self) -> HalfwordAddress
+        ensures { result ≡ record { 0 = halfwords_of self.now.image.now } }
+    {
+        HalfwordAddress((self.image.len() / 2) as u32)
     }
-    full_item(table, places, tree, image, a)
-}
 
-// The mask of the item at an address: of the walk of the word there.
-pub fn mask_at(tree: &[u32], image: &[u8], a: HalfwordAddress) -> u32
-    requires { a.0 < 2 ^ 20 }
-    ensures { result ≡ mask_or_zero (walk_of tree.now (word_at image.now a)) }
-{
-    let walked = walker::walk(tree, word(image, a));
-    walked.mask()
-}
+    // The halfword at an address before the end.
+    fn half(&self, a: HalfwordAddress) -> u16
+        requires { a.0 < halfwords_of self.now.image.now }
+        ensures { result ≡ halfword_at self.now.image.now a }
+    {
+        // kept: that an address lies before the end is of two values, the address and the image
+        let low = ByteOffset::from(a).0 as usize;
+        u16::from_le_bytes([self.image[low], self.image[low + 1]])
+    }
 
-// Lists the image from its start into the buffer: its full words, then the last halfword, if no item has taken it.
-pub fn fill(
-    table: &[u32],
-    places: &[u32; 256],
-    tree: &[u32],
-    image: &[u8],
-    out: &mut [u32],
-) -> Listed
-    requires { Admitted table.now places.now tree.now image.now }
-    ensures { Fills (items (table_of table.now).entries image.now) out.old out.new result }
-{
-    let end = halfwords(image);
-    let mut at = HalfwordAddress(0);
-    let mut n: usize = 0;
-    while at.0 + 1 < end {
-        if out.len() <= n {
-            return Listed::Full(at);
+    // The full word at an address.
+    fn full_word(&self, a: HalfwordAddress) -> u32
+        requires { a.0 + 1 < halfwords_of self.now.image.now }
+        ensures { result ≡ word_at self.now.image.now a }
+    {
+        both_halves(self.half(a), self.half(a.after(1)))
+    }
+
+    // The word at an address before the end; a missing lower half reads as zero.
+    fn word(&self, a: HalfwordAddress) -> u32
+        requires { a.0 < halfwords_of self.now.image.now }
+        ensures { result ≡ word_at self.now.image.now a }
+    {
+        // kept: as in `half`
+        if a.after(1) < self.end() {
+            return self.full_word(a);
         }
-        let item = full_item(table, places, tree, image, at);
-        out[n] = item.word;
-        at = item.next;
-        n += 1;
+        both_halves(self.half(a), 0)
     }
-    if end <= at.0 {
-        return Listed::Items(n as u32);
+
+    // Whether an entry has 16 bits.
+    fn is_short(&self, e: u8) -> bool
+        requires { e < self.now.table.entries.count }
+        ensures { result ≡ eqb (entry_number (entries_of self.now) e).size 16 }
+    {
+        size_at(
+            self.table.entries.words,
+            self.table.entries.places[e as usize],
+        ) == 16
     }
-    if out.len() <= n {
-        return Listed::Full(at);
+
+    // What a word selects. An accepted tree refuses no word.
+    fn pick(&self, w: u32) -> Picked
+        ensures { result ≡ picked (entries_of self.now) w }
+    {
+        let walk = walker::walk(self.tree, w).unwrap();
+        match walk.entry {
+            Some(entry) => {
+                let e = entry as u8;
+                if self.is_short(e) {
+                    return Picked::Short(e);
+                }
+                Picked::Long(e)
+            }
+            None => Picked::Nothing,
+        }
     }
-    let last = last_item(table, places, tree, image, at);
-    out[n] = last.word;
-    Listed::Items((n + 1) as u32)
+
+    // What all words with this upper half select.
+    fn pick_last(&self, upper: u16) -> Picked
+        ensures { result ≡ last_picked (entries_of self.now) upper }
+    {
+        match halves::in_common(self.tree, upper) {
+            Shared::Entry(e) => {
+                if self.is_short(e) {
+                    return Picked::Short(e);
+                }
+                Picked::Cut
+            }
+            Shared::Nothing => Picked::Nothing,
+            Shared::Several => Picked::Cut,
+        }
+    }
+
+    // What the image says at an address before the end.
+    fn picked_at(&self, a: HalfwordAddress) -> Picked
+        requires { a.0 < halfwords_of self.now.image.now }
+        ensures { result ≡ picked_at (entries_of self.now) self.now.image.now a }
+    {
+        // kept: as in `half`
+        if a.after(1) < self.end() {
+            return self.pick(self.full_word(a));
+        }
+        self.pick_last(self.half(a))
+    }
+
+    // The item there.
+    fn item_at(&self, a: HalfwordAddress) -> Item
+        requires { a.0 < halfwords_of self.now.image.now }
+        ensures { result ≡ item_at (entries_of self.now) self.now.image.now a }
+    {
+        // kept: as in `half`
+        item_of(self.picked_at(a), a, self.end())
+    }
+
+    // The mask of the item at an address: of the walk of the word there.
+    fn mask_at(&self, a: HalfwordAddress) -> u32
+        requires { a.0 < halfwords_of self.now.image.now }
+        ensures { result ≡ mask_or_zero (walk_of self.now.tree.now (word_at self.now.image.now a)) }
+    {
+        // kept: as in `half`
+        walker::mask(self.tree, self.word(a))
+    }
+
+    // The step at an address; none at or past the end.
+    pub fn step(&self, at: HalfwordAddress) -> Option<Stepped>
+        ensures { said_step (Ok result) ≡ step_from (answered (entries_of self.now)) self.now.tree.now self.now.image.now at }
+    {
+        if self.end() <= at {
+            return None;
+        }
+        let item = self.item_at(at);
+        let mask = self.mask_at(at);
+        Some(Stepped {
+            word: item.word,
+            next: item.next,
+            mask,
+        })
+    }
+
+    // Lists the image from its start into the buffer.
+    pub fn fill(&self, out: &mut [u32]) -> Result<u32, Refusal>
+        ensures { Fills (items (entries_of self.now) self.now.image.now) out.old out.new result }
+    {
+        let end = self.end();
+        let mut at = HalfwordAddress(0);
+        for n in 0..out.len() {
+            if end <= at {
+                return Ok(n as u32);
+            }
+            let item = self.item_at(at);
+            out[n] = item.word;
+            at = item.next;
+        }
+        if at < end {
+            return Err(Refusal::Full(at.0));
+        }
+        Ok(out.len() as u32)
+    }
 }

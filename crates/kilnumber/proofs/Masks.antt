@@ -1,5 +1,5 @@
 -- Document 02, No. 1, sentence by sentence, over the definitions that the calls' contracts cite. Assumes nothing.
---   `walker::walk` answers `walk_of words w` and `walker::walk_bytes` `walk_bytes bytes w`, which `kilnumber_walk` packs; `kilnumber_mask` answers
+--   `walker::walk` answers `walk_of words w` of words, and of bytes `walk_bytes bytes w`, which `kilnumber_walk` packs; `kilnumber_mask` answers
 --   `mask_or_zero (walk_bytes bytes w)`, `checker::check` `check_of (read_table ws) words`, `image::step` `step_of (read_table ws) words image at`.
 --     tested_bits, refused_zero     the mask
 --     accepted_ones, generated_ones     the count is the number of its ones

@@ -11,12 +11,9 @@ use mir.Facts.{to_z-of_z}
 use Rattle.words.specs.Outcome.{Outcome, result, faulty, refused}
 use Rattle.numbers.specs.Whole.{on_side}
 use Rattle.numbers.specs.Calls.{signed_of}
-use Rattle.numbers.specs.Answers.{said_signed}
-use Rattle.numbers.specs.declared.SignedNumber.{SignedNumber}
-use Rattle.numbers.specs.declared.SignedNumber.TheVariants.{Number}
 use Rattle.numbers.proofs.Numbers.{signed_small}
 use Rattle.numbers.proofs.Sides.{size_of}
-use Rattle.kilnumber.specs.Packed.{packed_whole, packed_signed, Narrow}
+use Rattle.kilnumber.specs.Packed.{Narrow}
 
 pub narrow : (w v : ℕ) → Narrow (signed_of w v)
 unfolding Narrow
@@ -27,17 +24,9 @@ narrow w v = go (signed_of w v) refl
     go (faulty n p) e = tt
     go (refused n p x) e = tt
 
--- a narrow number z, read back from its bits, on its side
-module _ (answer : SignedNumber) (z : ℤ) (e : answer ≡ Number z) (h : Narrow (said_signed answer)) (b : Bool) (n : ℕ) (s : on_side b n ≡ to_z w64 (of_z w64 z)) where
-  small : mag z < 2 ^ 32
-  unfolding Narrow
-  small = rw e at h
-
-  side_is : on_side b n ≡ z
-  side_is = let f : SFits w64 z = record { sfits = omega (arith, small) } in s ∙ to_z-of_z f
-
-  pub size_narrow : n < 2 ^ 32
-  size_narrow = omega (arith, sym (size_of b n) ∙ ap mag side_is, small)
-
-  pub whole_packed : (r : ℕ) → r ≡ packed_whole (on_side b n) → r ≡ packed_signed (said_signed answer)
-  whole_packed r p = rw e (p ∙ ap packed_whole side_is)
+-- such a number z, read back from its bits, on its side
+pub size_narrow : (w v : ℕ) (z : ℤ) → result z ≡ signed_of w v → (b : Bool) (n : ℕ) → on_side b n ≡ to_z w64 (of_z w64 z) → n < 2 ^ 32
+size_narrow w v z e b n s =
+    let small : mag z < 2 ^ 32 = signed_small w v z (sym e) in
+    let f : SFits w64 z = record { sfits = omega (arith, small) } in
+    omega (arith, sym (size_of b n) ∙ ap mag (s ∙ to_z-of_z f), small)

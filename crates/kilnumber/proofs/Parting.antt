@@ -4,6 +4,7 @@ use native.Mathlib.Omega.{arith}
 use mathlib.Core.Path.{◌≡◌, refl}
 use mathlib.Core.List.{List}
 use mathlib.Core.Option.{Option, none, some}
+use Rattle.std.specs.Prelude.{Some}
 use lib.Dec.{eqb, ltb}
 use lib.ListN.{length}
 use Rattle.words.specs.Words.{word, bit, part, bits}
@@ -11,8 +12,7 @@ use Rattle.words.specs.Bytes.{words_of}
 use Rattle.words.specs.Outcome.{Outcome, result, faulty, refused}
 use Rattle.words.proofs.Logic.{cases}
 use Rattle.words.proofs.Parts.{part_lt}
-use Rattle.flat.specs.Nodes.{header_of, node_of}
-use Rattle.flat.specs.declared.Header.TheVariants.{Good}
+use Rattle.flat.specs.Nodes.{good, header_of, node_of}
 use Rattle.flat.specs.declared.Node.TheVariants.{Asks, Names}
 use Rattle.flat.specs.Walk.{Ending, arrives, breaks, after, path, Walk, ended, enters, walk_of}
 use Rattle.flat.proofs.Reading.{header-cases, header_nodes, header_number, node-cases, Says, node_says}
@@ -63,15 +63,15 @@ path_bounded ws width n w (suc fuel) i h =
     node-cases (node_of width n i (word ws i))
     (λ d. rw d (refl, h))
     (λ b k d.
-    let s : Says width n i (Asks b k) = rw d at (node_says width n i (word ws i)) in
+    let s : Says width n i (Some (Asks b k)) = rw d at (node_says width n i (word ws i)) in
     rw d (cases (bit w b)
     (λ t. rw t (more fuel n b (path fuel ws width n w k) (path_bounded ws width n w fuel k s.3)))
     (λ t. rw t (more fuel n b (path fuel ws width n w (i + 1)) (path_bounded ws width n w fuel (i + 1) (omega (arith, s.2, s.3)))))))
-    (λ e d. let s : Says width n i (Names e) = rw d at (node_says width n i (word ws i)) in rw d (s, omega arith))
+    (λ e d. let s : Says width n i (Some (Names e)) = rw d at (node_says width n i (word ws i)) in rw d (s, omega arith))
     (λ d. rw d (tt, omega arith))
 
 -- a header's number of nodes has 16 bits
-header_few : (x words v n : ℕ) → header_of x words ≡ Good v n → n < 65536
+header_few : (x words v n : ℕ) → header_of x words ≡ good v n → n < 65536
 header_few x words v n h = omega (arith, header_number x words v n h, part_lt x 0 16)
 
 -- ---- the parts

@@ -1,4 +1,5 @@
 // The library for C: each function of the crate kilnumber under its own name, with the same contract. include/kilnumber.h is its header.
+// kept: C links a static library with these names; programs in Rattle call the same functions of the crate kilnumber
 #![tactic(auto)]
 
 ghost use Rattle.std.specs.Prelude.{◌≡◌};
@@ -10,7 +11,8 @@ ghost use Rattle.checker.specs.Checker.{check_of};
 ghost use Rattle.cost.specs.Cost.{cycles_of};
 ghost use Rattle.withdrawal.specs.Counted.{changed_of};
 ghost use Rattle.numbers.specs.Calls.{signed_of, stored_of};
-ghost use Rattle.kilnumber.specs.Packed.{packed, packed_number, packed_check, packed_measure, packed_count, packed_signed, ListsPacked, WritesPacked};
+ghost use Rattle.kilnumber.specs.Packed.{packed, packed_number, packed_check, packed_measure, packed_count, packed_signed};
+ghost use Rattle.kilnumber.specs.Packed.{ListsPacked, WritesPacked};
 
 #[unsafe(no_mangle)]
 pub extern "C" fn kilnumber_walk(tree: &[u8], word: u32) -> u64

@@ -1,136 +1,88 @@
 // The whole tree of a table without fault: written into a lent buffer, or only sized; and what is judged of it.
-ghost use Rattle.std.specs.Prelude.{◌≡◌, ℕ, ◌≤◌, ◌<◌, length, replicate};
+ghost use Rattle.std.specs.Prelude.{◌≡◌, ◌≤◌, ◌<◌, not, length, position};
 ghost use Rattle.words.specs.Outcome.{result as answered};
-ghost use Rattle.table.specs.Ready.{Ready};
-ghost use Rattle.table.specs.Table.{entries_at};
 ghost use Rattle.tree.specs.Written.{header_word};
+ghost use Rattle.tree.specs.Held.{entries_of};
 ghost use Rattle.tree.specs.Generate.{table_with, survey_of};
 ghost use Rattle.maker.specs.Answers.{said_measure};
-ghost use Rattle.maker.specs.Parts.{WritesTree, lowest_unmarked, by_leaves, judged_by, Judging};
+ghost use Rattle.maker.specs.Parts.{WritesTree, lowest_unmarked, judged_by, Judging};
 
-use crate::{First, Generated, Judged, LIMIT, Made, Measured, nodes};
+use crate::{LIMIT, Made, Size, Writer};
+use cell::Cell;
+use table::Table;
+use words::{Kind, Refusal};
 
+#[tactic(auto, unfolding(tree::specs::Written::header_word))]
 fn header_word(width: u32, nodes: usize) -> u32
     requires { (width < 64) × (nodes < 65536) }
     ensures { result ≡ header_word width nodes }
 {
-    ((nodes as u32) | (width << 16)) | (7 << 28)
+    // kept: masks and shifts, the form that document 01 names
+    nodes as u32 | (width << 16) | Kind::Tree.word()
 }
 
-// Sets every word of a buffer to zero.
-fn clear(out: &mut [u32])
-    ensures { out.new ≡ replicate (length out.old) 0 }
+// The lowest entry that has no mark.
+fn unmarked(marks: &[bool]) -> Option<usize>
+    ensures { result ≡ position not marks.now }
 {
-    let mut i = 0;
-    while i < out.len() {
-        out[i] = 0;
-        i += 1;
+    marks.iter().position(|marked| !*marked)
+}
+
+// Judges a whole tree, from what its maker answers and marks: fit, then ambiguity, then reach, by the lowest entry that no leaf names,
+// which no word selects.
+fn judge_tree(made: Option<Made>, marks: &[bool]) -> Result<Made, Refusal>
+    requires { length marks.now ≤ 256 }
+    ensures { result ≡ judged_by made (lowest_unmarked marks.now (length marks.now)) }
+{
+    let made = made.ok_or(Refusal::NoFit)?;
+    if let Some(word) = made.first {
+        return Err(Refusal::Ambiguous(word));
     }
-}
-
-// No entry is marked.
-fn no_marks() -> [u8; 256]
-    ensures { result ≡ replicate 256 0 }
-{
-    [0u8; 256]
-}
-
-// Judges a tree without conflict: the lowest entry that no leaf names, which no word selects; else the tree stands.
-fn judge_leaves(marks: &[u8; 256], count: usize, next: usize, tests: u32) -> Judged
-    requires { count ≤ 256 }
-    ensures { result ≡ by_leaves (lowest_unmarked marks.now count) next tests }
-{
-    let mut e = 0;
-    while e < count {
-        if marks[e] == 0 {
-            return Judged::Unreached(e as u32);
-        }
-        e += 1;
-    }
-    Judged::Stands(next, tests)
-}
-
-// Judges a whole tree, from what its maker answers and marks: fit, then ambiguity, then reach.
-fn judge_tree(made: Made, marks: &[u8; 256], count: usize) -> Judged
-    requires { count ≤ 256 }
-    ensures { result ≡ judged_by made (lowest_unmarked marks.now count) }
-{
-    match made {
-        Made::Full => Judged::NoFit,
-        Made::Wrote(next, first, tests) => match first {
-            First::Clean => judge_leaves(marks, count, next, tests),
-            First::Clash(w) => Judged::Ambiguous(w),
-        },
+    match unmarked(marks) {
+        Some(e) => Err(Refusal::Unreached(e as u32)),
+        None => Ok(made),
     }
 }
 
 // Makes the whole tree of a table without fault, below a limit, and judges it.
-fn make_whole(
-    table: &[u32],
-    places: &[u32; 256],
-    count: usize,
-    width: u32,
-    out: &mut [u32],
-    limit: usize,
-) -> Judged
-    requires { (limit ≤ 16384) × Ready table.now places.now width count }
-    ensures { Judging result out.old out.new (entries_at table.now count 1) width limit }
+fn make_whole(table: &Table, out: &mut [u32], limit: usize) -> Result<Made, Refusal>
+    requires { limit ≤ 16384 }
+    ensures { Judging result out.old out.new (entries_of table.now) table.now.width limit }
 {
-    let mut marks = no_marks();
-    let made = nodes::make_tree(table, places, count, width, 0, 0, out, 1, limit, &mut marks);
-    judge_tree(made, &marks, count)
+    // kept: no heap, so a mark for each of the most entries
+    let marks = [false; 256];
+    let mut writer = Writer { out, marks, limit };
+    let made = writer.make_tree(table, Cell::START, 1);
+    judge_tree(made, &writer.marks[..table.entries.count])
 }
 
 // Writes the tree of a table without fault; a refusal leaves the buffer all zero.
-pub fn write_tree(
-    table: &[u32],
-    places: &[u32; 256],
-    count: usize,
-    width: u32,
-    out: &mut [u32],
-) -> Generated
-    requires { Ready table.now places.now width count }
-    ensures { WritesTree (entries_at table.now count 1) width out.old out.new result }
+pub fn write_tree(table: &Table, out: &mut [u32]) -> Result<u32, Refusal>
+    ensures { WritesTree (entries_of table.now) table.now.width out.old out.new result }
 {
-    let limit = words::lesser(out.len(), LIMIT);
-    let judged = make_whole(table, places, count, width, out, limit);
-    match judged {
-        Judged::Stands(next, _) => {
-            out[0] = header_word(width, next - 1);
-            let words = next as u32;
-            Generated::Words(words)
+    let limit = out.len().min(LIMIT);
+    match make_whole(table, out, limit) {
+        Ok(made) => {
+            out[0] = header_word(table.width, made.next - 1);
+            let words = made.next as u32;
+            Ok(words)
         }
-        Judged::NoFit => {
-            clear(out);
-            Generated::NoFit
-        }
-        Judged::Ambiguous(w) => {
-            clear(out);
-            Generated::Ambiguous(w)
-        }
-        Judged::Unreached(e) => {
-            clear(out);
-            Generated::Unreached(e)
+        Err(refusal) => {
+            out.fill(0);
+            Err(refusal)
         }
     }
 }
 
 // The size of the tree of a table without fault, within a room of so many words.
-pub fn survey(table: &[u32], places: &[u32; 256], count: usize, width: u32, room: usize) -> Measured
-    requires { Ready table.now places.now width count }
-    ensures { said_measure result ≡ survey_of (answered (table_with (entries_at table.now count 1) width)) room }
+pub fn survey(table: &Table, room: usize) -> Result<Size, Refusal>
+    ensures { said_measure result ≡ survey_of (answered (table_with (entries_of table.now) table.now.width)) room }
 {
-    let limit = words::lesser(room, LIMIT);
-    // nodes have indices from 1 on, so none is kept
-    let mut none = [0u32; 1];
-    let judged = make_whole(table, places, count, width, &mut none, limit);
-    match judged {
-        Judged::Stands(next, tests) => {
-            let nodes = (next - 1) as u32;
-            Measured::Tree(nodes, tests)
-        }
-        Judged::NoFit => Measured::NoFit,
-        Judged::Ambiguous(w) => Measured::Ambiguous(w),
-        Judged::Unreached(e) => Measured::Unreached(e),
-    }
+    // no word is kept
+    let made = make_whole(table, &mut [], room.min(LIMIT))?;
+    let nodes = (made.next - 1) as u32;
+    Ok(Size {
+        nodes,
+        tests: made.tests,
+    })
 }

@@ -88,23 +88,39 @@ range_plain k m = refl
 -- ---- the side of a stored value
 
 module _ (s : Bool) (k v : ℕ) where
-  abbrev Side : Bool → ℕ → Type 0
-  Side b n = (on_side b n ≡ number_of s k v) × (nat_abs (on_side b n) < 2 ^ 32)
+  -- of a value of k bits, its number is on the side that is made
+  abbrev Sided : Bool → ℕ → Type 0
+  Sided b n = result (on_side b n) ≡ answer_of fine (ltb v (2 ^ k)) (number_of s k v)
 
-  pub side_plain : s ≡ false → v < 2 ^ 32 → Side false v
-  unfolding on_side
-  side_plain e h = (sym (plain_is s k v e), h)
+  side_is : (b : Bool) (n : ℕ) → v < 2 ^ k → on_side b n ≡ number_of s k v → Sided b n
+  unfolding answer_of
+  side_is b n h e = rw (lt-ltb v (2 ^ k) h, e)
 
-  pub side_upper : v < 2 ^ (k - 1) → v < 2 ^ 32 → Side false v
-  unfolding on_side
-  side_upper l h = (sym (upper_is s k v l), h)
+  pub side_out : ltb v (2 ^ k) ≡ false → refused 12 0 0 ≡ answer_of fine (ltb v (2 ^ k)) (number_of s k v)
+  unfolding answer_of
+  side_out e = rw e
 
-  pub side_lower : (n : ℕ) → s ≡ true → 1 ≤ k → k ≤ 32 → 2 ^ (k - 1) ≤ v → v < 2 ^ k → n ≡ 2 ^ k - suc v → Side true n
-  unfolding on_side
-  side_lower n e a b h l d =
-      let i : k - 1 ≤ 31 = omega arith in
-      let m : 2 ^ (k - 1) ≤ 2 ^ 31 = pow_mono i in
-      (ap negsuc d ∙ sym (lower_is s k v e h l), omega (arith, doubled k a))
+  pub side_up : v < 2 ^ k → v < 2 ^ size_bits s k → Sided false v
+  unfolding on_side size_bits
+  side_up h l = side_is false v h (go s l)
+    where
+      go : (s : Bool) → v < 2 ^ size_bits s k → pos v ≡ number_of s k v
+      go true l = sym (upper_is true k v l)
+      go false l = sym (plain_is false k v refl)
+
+  module _ (n : ℕ) (some : 1 ≤ k) (h : v < 2 ^ k) (l : 2 ^ size_bits s k ≤ v) (d : n ≡ 2 ^ k - suc v) where
+    pub side_down : Sided true n
+    unfolding on_side size_bits
+    side_down = side_is true n h (go s l)
+      where
+        go : (s : Bool) → 2 ^ size_bits s k ≤ v → negsuc n ≡ number_of s k v
+        go true l = ap negsuc d ∙ sym (lower_is true k v refl l h)
+        go false l = absurd (omega arith)
+
+    -- it has 32 bits, as the value has
+    pub near_down : k ≤ 32 → nat_abs (on_side true n) < 2 ^ 32
+    unfolding on_side
+    near_down most = let p : 2 ^ k ≤ 2 ^ 32 = pow_mono most in omega (arith, pow_pos (size_bits s k))
 
 -- ---- the stored value of a number on a side
 
@@ -126,11 +142,6 @@ module _ (s : Bool) (k n : ℕ) (most : k ≤ 32) where
 
   pub value_fits : n < 2 ^ k → n < 2 ^ 32
   value_fits h = le_trans h (pow_mono most)
-
-  pub opposite_fits : (m : ℕ) → m ≡ 2 ^ k - suc n → m < 2 ^ 32
-  opposite_fits m e =
-      let p : 2 ^ k ≤ 2 ^ 32 = pow_mono most in
-      omega (arith, pow_pos k)
 
 module _ (s : Bool) (k : ℕ) (b : Bool) (n : ℕ) where
   abbrev Kept : Outcome ℕ → Type 0

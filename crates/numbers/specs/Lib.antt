@@ -3,5 +3,6 @@ pub mod Whole
 pub mod Decimals
 pub mod Calls
 pub mod Answers
+pub mod Judged
 pub mod Exact
 pub mod Plain

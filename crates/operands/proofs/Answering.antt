@@ -6,63 +6,68 @@ use Prim.Native.Nat.{ℕ, ◌^◌, ◌≤◌, ◌<◌}
 use native.Mathlib.Nat.{zero-add}
 use native.Mathlib.Omega.{arith}
 use lib.Dec.{ltb}
-use lib.ListN.{length, drop}
+use lib.ListN.{length, get_or, drop}
 use lib.Seq.{sets, sets-eq}
 use borrow.Author.Tests.{le-leb, lt-leb, ltb-true}
 use Rattle.words.specs.Words.{word}
 use Rattle.words.proofs.Logic.{cases}
-use Rattle.words.specs.Outcome.{Outcome, result, faulty, refused}
+use Rattle.std.specs.Prelude.{Ok, Err, Some, None}
+use Rattle.words.specs.Outcome.{Outcome, result, faulty, refused, number_of, refused_as}
+use Rattle.words.specs.declared.Refusal.{Refusal}
+use Rattle.words.specs.declared.Refusal.TheVariants as refusal
 use Rattle.table.specs.Table.{Entry, Table, entry_number, table_of, entry_at, entry_place, fields_at, fields_place, fields_of, count_of, width_of}
 use Rattle.table.specs.Check.{Check, fine, fault, table_check, entry_check, reading, read_table}
+use Rattle.table.specs.Answer.{Reads}
+use Rattle.table.specs.Ready.{Ready}
+use Rattle.table.specs.declared.Table as Held
 use Rattle.table.proofs.Laws.{then_r, length_entries, length_fields}
-use Rattle.table.proofs.Views.{entry_check_lem, entry_at_lem, entry_few_fields}
+use Rattle.table.proofs.Views.{entry_check_lem, entry_at_lem, entry_few_fields, read_refused}
 use Rattle.choice.specs.Rule.{Choice, names, nothing, ambiguous}
 use Rattle.selection.specs.Selection.{select}
-use Rattle.selection.specs.Lookup.{looked_up, look_of}
+use Rattle.selection.specs.Lookup.{looked_up, look_of, Finds}
 use Rattle.operands.specs.Fields.{values_in}
 use Rattle.operands.specs.Calls.{Decoded, entry_values, none_selected, decoded_as, decode_of, buffer_after}
-use Rattle.operands.specs.Answers.{first_words, said_decode, no_room_of, Decodes}
-use Rattle.operands.specs.declared.Decoding.{Decoding}
-use Rattle.operands.specs.declared.Decoding.TheVariants as decoding
+use Rattle.operands.specs.Answers.{first_words, Decodes}
 use Rattle.operands.proofs.Inverse.{selected_lt, decodes, length_values}
 
--- ---- in a buffer under 8 words
+-- ---- what refuses: a fault or another number, whatever it refuses
+module _ {A B : Type 0} (P : Outcome A → Outcome B → Type 0) (f : (n p : ℕ) → P (faulty n p) (faulty n p)) (g : (n p w : ℕ) → P (refused n p w) (refused n p w)) where
+  pub by_refusal : (r : Refusal) → P (refused_as r) (refused_as r)
+  by_refusal (refusal.Faulty a p) = f (number_of a) p
+  by_refusal refusal.NoFit = g 5 0 0
+  by_refusal (refusal.Ambiguous w) = g 6 0 w
+  by_refusal refusal.TooWide = g 7 0 0
+  by_refusal refusal.BadHeader = g 8 0 0
+  by_refusal (refusal.Damaged i) = g 9 i 0
+  by_refusal refusal.ShortBuffer = g 10 0 0
+  by_refusal refusal.NoEntry = g 11 0 0
+  by_refusal (refusal.Misfit i) = g 12 i 0
+  by_refusal (refusal.NotSelected w) = g 13 0 w
+  by_refusal refusal.BadTree = g 14 0 0
+  by_refusal refusal.BadTable = g 15 0 0
+  by_refusal refusal.BadImage = g 16 0 0
+  by_refusal (refusal.Full a) = g 17 a 0
+  by_refusal refusal.NoRoom = g 18 0 0
+  by_refusal (refusal.Unreached e) = g 19 e 0
 
--- the reading as its two cases are
-pub no_room_faulty : (r : Outcome Table) (a b : ℕ) → r ≡ faulty a b → faulty a b ≡ no_room_of r
-unfolding no_room_of
-no_room_faulty r a b e = rw e
-
-pub no_room_read : (r : Outcome Table) (t : Table) → r ≡ result t → refused 10 0 0 ≡ no_room_of r
-unfolding no_room_of
-no_room_read r t e = rw e
-
-decode_little : (r : Outcome Table) (w room : ℕ) → room < 8 → decode_of r w room ≡ no_room_of r
-unfolding decode_of no_room_of
-decode_little (faulty n p) w room h = refl
-decode_little (refused n p x) w room h = refl
-decode_little (result t) w room h = rw (lt-leb 8 room h)
-
--- no case but an entry says anything of the buffer
+-- it leaves the buffer as it was
 module _ (ws : List ℕ) (w : ℕ) (out : List ℕ) where
-  keeps : (r : Decoding) → said_decode r out ≡ decode_of (read_table ws) w (length out) → buffer_after (said_decode r out) out ≡ out → Decodes ws w out out r
-  keeps r e q = record { answer = e; buffer = rw (← e) (sym q) }
+  unwritten : (r : Refusal) → buffer_after (refused_as r) out ≡ out
+  unfolding buffer_after
+  unwritten = let P : Outcome Decoded → Outcome Decoded → Type 0 = λ o q. buffer_after o out ≡ out in by_refusal P (λ n p. refl) (λ n p x. refl)
 
-  no_room_keeps : (x : Outcome Table) (r : Decoding) → said_decode r [] ≡ no_room_of x → (said_decode r out ≡ no_room_of x) × (buffer_after (said_decode r out) out ≡ out)
-  unfolding no_room_of buffer_after
-  no_room_keeps (faulty n p) (decoding.Entry e k) h = absurd (let z : ◌≡◌ {A = ℕ} 0 1 = cc in omega arith)
-  no_room_keeps (refused n p x) (decoding.Entry e k) h = absurd (let z : ◌≡◌ {A = ℕ} 0 1 = cc in omega arith)
-  no_room_keeps (result t) (decoding.Entry e k) h = absurd (let z : ◌≡◌ {A = ℕ} 0 1 = cc in omega arith)
-  no_room_keeps x decoding.Nothing h = (h, refl)
-  no_room_keeps x (decoding.Ambiguous v) h = (h, refl)
-  no_room_keeps x decoding.TooWide h = (h, refl)
-  no_room_keeps x decoding.NoRoom h = (h, refl)
-  no_room_keeps x (decoding.Refused n p) h = (h, refl)
+  keeps : (r : Refusal) → refused_as r ≡ decode_of (read_table ws) w (length out) → Decodes ws w out out (Err r)
+  keeps r e = record { answer = e; buffer = sym (ap (λ (o : Outcome Decoded). buffer_after o out) (sym e) ∙ unwritten r) }
 
-  pub decode_short : (r : Decoding) → said_decode r [] ≡ no_room_of (read_table ws) → length out < 8 → Decodes ws w out out r
-  decode_short r e h =
-      let k = no_room_keeps (read_table ws) r e in
-      keeps r (k.0 ∙ sym (decode_little (read_table ws) w (length out) h)) k.1
+  -- in a buffer under 8 words: the table's fault, else 10
+  module _ (h : length out < 8) where
+    pub short_faulty : (r : Refusal) → Reads ws (Err r) → Decodes ws w out out (Err r)
+    unfolding decode_of
+    short_faulty r reads = keeps r (read_refused ws r reads (λ (o : Outcome Table). decode_of o w (length out)) (λ n p. refl))
+
+    pub short : (t : Table) → read_table ws ≡ result t → Decodes ws w out out (Err refusal.ShortBuffer)
+    unfolding decode_of
+    short t e = keeps refusal.ShortBuffer (rw (e, lt-leb 8 (length out) h))
 
 -- ---- in a larger buffer, by what lookup says
 
@@ -93,17 +98,19 @@ decode_look (result t) w room h =
 
 module _ (ws : List ℕ) (w : ℕ) (out : List ℕ) (h : 8 ≤ length out) where
   -- a refusal of lookup is decoding's, and so is nothing
-  pub decode_refused : (r : Decoding) (n p x : ℕ) → said_decode r out ≡ refused n p x → refused n p x ≡ look_of (read_table ws) w → Decodes ws w out out r
-  unfolding buffer_after decode_by
-  decode_refused r n p x q e = keeps ws w out r (q ∙ rw (decode_look (read_table ws) w (length out) h, ← e)) (rw q)
+  pub decode_refused : (r : Refusal) → Finds ws w (Err r) → Decodes ws w out out (Err r)
+  unfolding decode_by
+  decode_refused r f =
+      let es = entries_of (read_table ws) in
+      let P : Outcome (Option ℕ) → Outcome Decoded → Type 0 = λ o q. decode_by es w o ≡ q in
+      let passed : decode_by es w (refused_as r) ≡ refused_as r = by_refusal P (λ n p. refl) (λ n p x. refl) r in
+      keeps ws w out r (sym (decode_look (read_table ws) w (length out) h ∙ ap (decode_by es w) (sym f.answer) ∙ passed))
 
-  pub decode_faulty : (n p : ℕ) → faulty n p ≡ look_of (read_table ws) w → Decodes ws w out out (decoding.Refused n p)
+  pub decode_nothing : Finds ws w (Ok None) → Decodes ws w out out (Ok None)
   unfolding buffer_after decode_by
-  decode_faulty n p e = keeps ws w out (decoding.Refused n p) (rw (decode_look (read_table ws) w (length out) h, ← e)) refl
-
-  pub decode_nothing : result none ≡ look_of (read_table ws) w → Decodes ws w out out decoding.Nothing
-  unfolding buffer_after decode_by
-  decode_nothing e = keeps ws w out decoding.Nothing (rw (decode_look (read_table ws) w (length out) h, ← e)) refl
+  decode_nothing f =
+      let e : decode_of (read_table ws) w (length out) ≡ result none_selected = rw (decode_look (read_table ws) w (length out) h, ← f.answer) in
+      record { answer = sym e; buffer = rw e }
 
 -- ---- an entry of a table without fault, by its place
 
@@ -121,6 +128,18 @@ stands ws e place t h q =
       is = rw q (entry_at_lem ws (width_of (word ws 0)) e (count_of (word ws 0)) _ h);
       check = c;
     }
+
+-- of a table that was read
+module _ (ws : List ℕ) (t : Held.Table) (reads : Reads ws (Ok t)) where
+  pub read_ready : Ready ws t.entries.places t.width t.entries.count
+  read_ready = rw reads.words at t.ready
+
+  module _ (e : ℕ) (h : e < t.entries.count) where
+    pub read_low : e < count_of (word ws 0)
+    read_low = omega (arith, read_ready.number)
+
+    pub read_stands : Stands ws e (get_or t.entries.places e 0)
+    read_stands = stands ws e _ read_ready.good read_low (read_ready.each e h)
 
 looked_names : (w e : ℕ) (c : Choice) → result (some e) ≡ looked_up w c → c ≡ names e
 looked_names w e (names i) h = let q : i ≡ e = cc in ap names q
@@ -149,7 +168,7 @@ module _ (ws : List ℕ) (w e place : ℕ) (l : result (some e) ≡ look_of (rea
 
   -- the values written are those of the definition
   pub decode_entry : (before after : List ℕ) (n : ℕ) → n ≡ fields_of (word ws place) → 8 ≤ length before
-      → after ≡ sets before 0 (values_in (fields_at ws n (fields_place ws place)) w) → Decodes ws w before after (decoding.Entry e n)
+      → after ≡ sets before 0 (values_in (fields_at ws n (fields_place ws place)) w) → Decodes ws w before after (Ok (Some (record { entry = e; count = n })))
   unfolding buffer_after
   decode_entry before after n c h a =
       let x = look_entry (table_check ws) (table_of ws) w e l in

@@ -4,7 +4,7 @@ use mathlib.Core.List.{List, ◌∷◌}
 use mathlib.Core.Bool.{true, false}
 use Prim.Native.Nat.{ℕ, zero, suc, ◌+◌, ◌-◌, ◌*◌, ◌%◌, ◌^◌, ◌≤◌, ◌<◌}
 use native.Mathlib.Omega.{arith}
-use native.Mathlib.Numerals.{sub-one, add-one}
+use native.Mathlib.Numerals.{add-one}
 use lib.Bits.{bit_or}
 use lib.Dec.{ltb}
 use lib.ListN.{length, get_or, set, drop}
@@ -13,20 +13,22 @@ use lib.Seq.{sets, drop-cons}
 use Rattle.words.specs.Words.{word, part}
 use Rattle.table.specs.Table.{field_at, fields_at, field_low, field_width}
 use Rattle.operands.specs.Fields.{values_in, placed, misfit}
-use Rattle.operands.specs.Answers.{InWord, word_made, misfit_at, makes}
+use Rattle.words.specs.Outcome.{result, refused}
+use Rattle.operands.specs.Answers.{InWord, makes}
 
 module _ (ws : List ℕ) (w : ℕ) where
-  -- one more value written
-  pub values_on : (l : List ℕ) (k n p v low width : ℕ) → 0 < n → low ≡ field_low (word ws p) → width ≡ field_width (word ws p) → v ≡ part w low width
-      → sets l k (values_in (fields_at ws n p) w) ≡ sets (set l k v) (k + 1) (values_in (fields_at ws (n - 1) (p + 1)) w)
+  -- value k of n written
+  pub values_on : (l : List ℕ) (k n p v low width : ℕ) → k < n → low ≡ field_low (word ws (p + k)) → width ≡ field_width (word ws (p + k)) → v ≡ part w low width
+      → sets l k (values_in (fields_at ws (n - k) (p + k)) w) ≡ sets (set l k v) (k + 1) (values_in (fields_at ws (n - (k + 1)) (p + (k + 1))) w)
   unfolding values_in fields_at
-  values_on l k zero p v low width h a b e = absurd (omega arith)
-  values_on l k (suc n) p v low width h a b e = rw (sub-one (suc n), add-one k, e, a, b)
+  values_on l k n p v low width h a b e =
+      let c : n - k ≡ suc (n - (k + 1)) = omega arith in
+      let d : p + k + 1 ≡ p + (k + 1) = omega arith in
+      rw (c, d, e, a, b, add-one k)
 
-  pub values_done : (l : List ℕ) (k n p : ℕ) → n ≤ 0 → sets l k (values_in (fields_at ws n p) w) ≡ l
+  pub values_done : (l : List ℕ) (k n p : ℕ) → n ≤ k → sets l k (values_in (fields_at ws (n - k) p) w) ≡ l
   unfolding values_in fields_at
-  values_done l k zero p h = refl
-  values_done l k (suc n) p h = absurd (omega arith)
+  values_done l k n p h = let c : n - k ≡ 0 = omega arith in rw c
 
 -- ---- placing
 module _ (ws : List ℕ) (p : ℕ) (vs : List ℕ) (k : ℕ) (h : k < length vs) where
@@ -46,7 +48,7 @@ module _ (ws : List ℕ) (p : ℕ) (vs : List ℕ) (k : ℕ) (h : k < length vs)
 
   module _ (w : ℕ) where
     pub makes_stop : ltb (get_or vs k 0) (2 ^ field_width (word ws (p + k))) ≡ false
-        → makes k w (fields_at ws (length vs - k) (p + k)) (drop k vs) ≡ misfit_at k
+        → makes k w (fields_at ws (length vs - k) (p + k)) (drop k vs) ≡ refused 12 k 0
     unfolding makes misfit
     makes_stop e = rw (fields_here, values_here, e)
 
@@ -68,11 +70,11 @@ module _ (ws : List ℕ) (p : ℕ) (vs : List ℕ) (k : ℕ) (h : k < length vs)
   unfolding InWord
   word_rest i = (rw fields_here at i).2
 
-pub makes_done : (ws : List ℕ) (p : ℕ) (vs : List ℕ) (k w : ℕ) → k ≡ length vs → makes k w (fields_at ws (length vs - k) (p + k)) (drop k vs) ≡ word_made w
+pub makes_done : (ws : List ℕ) (p : ℕ) (vs : List ℕ) (k w : ℕ) → k ≡ length vs → makes k w (fields_at ws (length vs - k) (p + k)) (drop k vs) ≡ result w
 unfolding makes misfit placed fields_at
 makes_done ws p vs k w e = go (length vs - k) (omega arith)
   where
-    go : (m : ℕ) → m ≡ 0 → makes k w (fields_at ws m (p + k)) (drop k vs) ≡ word_made w
+    go : (m : ℕ) → m ≡ 0 → makes k w (fields_at ws m (p + k)) (drop k vs) ≡ result w
     go zero q = refl
     go (suc m) q = absurd (omega arith)
 

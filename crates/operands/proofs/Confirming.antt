@@ -3,7 +3,7 @@ use mathlib.Core.Path.{◌≡◌, refl, sym, ap, ◌∙◌}
 use mathlib.Core.List.{List}
 use mathlib.Core.Bool.{true, cond}
 use mathlib.Core.Option.{Option, none, some}
-use Prim.Native.Nat.{ℕ, zero, suc, ◌+◌, ◌^◌, ◌≤◌, ◌<◌}
+use Prim.Native.Nat.{ℕ, zero, suc, min, ◌+◌, ◌^◌, ◌≤◌, ◌<◌}
 use native.Mathlib.Omega.{arith}
 use lib.Dec.{eqb}
 use lib.ListN.{length}
@@ -11,50 +11,65 @@ use borrow.Author.Tests.{eq-eqb, ne_eqb, lt-ltb, le-ltb}
 use Rattle.words.specs.Tests.{◌and◌}
 use Rattle.words.specs.Words.{word}
 use lib.Bits.{bit_or}
-use Rattle.words.specs.Outcome.{Outcome, result, faulty, refused}
+use Rattle.std.specs.Prelude.{Result, Ok, Err}
+use Rattle.std.specs.Prelude as code
+use Rattle.words.specs.Outcome.{Outcome, result, refused, refused_as}
+use Rattle.words.specs.declared.Refusal.{Refusal}
 use Rattle.table.specs.Table.{Entry, Table, Field, entry_number, table_of, fields_at, fields_place, fields_of, field_bits, size_of, count_of, width_of}
 use Rattle.table.specs.Check.{fine, table_check, fields_check, read_table}
+use Rattle.table.specs.Answer.{Reads}
+use Rattle.table.specs.declared.Table as Held
 use Rattle.table.proofs.Laws.{then_l, then_r, length_entries, length_fields, first_width, field_some, field_below}
-use Rattle.table.proofs.Views.{entry_field_check}
+use Rattle.table.proofs.Views.{entry_field_check, read_refused}
 use Rattle.choice.specs.Rule.{Choice, names, nothing, ambiguous, selects}
 use Rattle.selection.specs.Selection.{select}
-use Rattle.selection.specs.Lookup.{looked_up, look_of}
+use Rattle.selection.specs.Lookup.{looked_up, look_of, said_found}
+use Rattle.selection.specs.Places.{FindsAmong}
+use Rattle.selection.specs.declared.Found.{Found}
+use Rattle.selection.proofs.Finding.{among_finds}
 use Rattle.operands.specs.Fields.{placed, misfit}
 use Rattle.operands.specs.Calls.{encoded_as, encoded_from, encode_of}
-use Rattle.operands.specs.Answers.{InWord, word_made, misfit_at, made_or, makes, confirmed, made_for}
+use Rattle.operands.specs.Answers.{InWord, made_or, makes, confirmed, made_for}
 use Rattle.operands.proofs.Cover.{placed_taken}
 use Rattle.operands.proofs.Inverse.{Good, entry_good, own_lt}
-use Rattle.operands.proofs.Answering.{Stands}
+use Rattle.operands.proofs.Answering.{by_refusal, Stands}
 
--- ---- by what lookup says of the word
-module _ (x : Outcome (Option ℕ)) (e w : ℕ) where
-  pub confirmed_yes : (i : ℕ) → result (some i) ≡ x → i ≡ e → result w ≡ confirmed x e w
-  unfolding confirmed
-  confirmed_yes i h q = rw (← h, eq-eqb i e q)
+-- ---- by what lookup says of the word, in the entries of a table that was read
+module _ (t : Held.Table) (e w : ℕ) (r : Result (code.Option Found) Refusal) (f : FindsAmong t.entries.words.now t.entries.places t.width (min t.entries.count 256) w r) where
+  abbrev looked : Outcome (Option ℕ)
+  looked = look_of (read_table t.entries.words.now) w
 
-  pub confirmed_other : (i : ℕ) → result (some i) ≡ x → (i ≡ e → ⊥) → refused 13 0 w ≡ confirmed x e w
-  unfolding confirmed
-  confirmed_other i h q = rw (← h, ne_eqb i e q)
+  is_looked : said_found r ≡ looked
+  is_looked = (among_finds t.entries.words.now t.entries.places t.width t.entries.count w t.ready r f).answer
 
-  pub confirmed_nothing : result none ≡ x → refused 13 0 w ≡ confirmed x e w
+  pub confirmed_yes : (a : Found) → r ≡ Ok (code.Some a) → a.entry ≡ e → result w ≡ confirmed looked e w
   unfolding confirmed
-  confirmed_nothing h = rw (← h)
+  confirmed_yes a h q = let x : result (some a.entry) ≡ looked = rw h at is_looked in rw (← x, eq-eqb a.entry e q)
 
-  pub confirmed_refused : (n p v : ℕ) → refused n p v ≡ x → refused 13 0 w ≡ confirmed x e w
+  pub confirmed_other : (a : Found) → r ≡ Ok (code.Some a) → (a.entry ≡ e → ⊥) → refused 13 0 w ≡ confirmed looked e w
   unfolding confirmed
-  confirmed_refused n p v h = rw (← h)
+  confirmed_other a h q = let x : result (some a.entry) ≡ looked = rw h at is_looked in rw (← x, ne_eqb a.entry e q)
 
-  pub confirmed_faulty : (n p : ℕ) → faulty n p ≡ x → refused 13 0 w ≡ confirmed x e w
+  pub confirmed_nothing : r ≡ Ok code.None → refused 13 0 w ≡ confirmed looked e w
   unfolding confirmed
-  confirmed_faulty n p h = rw (← h)
+  confirmed_nothing h = let x : result none ≡ looked = rw h at is_looked in rw (← x)
+
+  pub confirmed_refused : (a : Refusal) → r ≡ Err a → refused 13 0 w ≡ confirmed looked e w
+  unfolding confirmed
+  confirmed_refused a h =
+      let x : refused_as a ≡ looked = rw h at is_looked in
+      let P : Outcome (Option ℕ) → Outcome ℕ → Type 0 = λ o q. refused 13 0 w ≡ confirmed o e w in
+      rw (← x) (by_refusal P (λ n p. refl) (λ n p v. refl) a)
 
 -- ---- a misfit, or a word made; o is the opcode's value as the code has it
 module _ (r : Outcome Table) (e o o' : ℕ) (fs : List Field) (vs : List ℕ) (q : o ≡ o') where
-  pub made_misfit : (k : ℕ) → misfit_at k ≡ makes 0 o fs vs → refused 12 k 0 ≡ made_for r e (makes 0 o' fs vs)
+  pub made_refused : (a : Refusal) → refused_as a ≡ makes 0 o fs vs → refused_as a ≡ made_for r e (makes 0 o' fs vs)
   unfolding made_for
-  made_misfit k h = rw (← q, ← h)
+  made_refused a h =
+      let P : Outcome ℕ → Outcome ℕ → Type 0 = λ x y. y ≡ made_for r e x in
+      rw (← q, ← h) (by_refusal P (λ n p. refl) (λ n p x. refl) a)
 
-  pub made_word : (w : ℕ) (a : Outcome ℕ) → word_made w ≡ makes 0 o fs vs → a ≡ confirmed (look_of r w) e w → a ≡ made_for r e (makes 0 o' fs vs)
+  pub made_word : (w : ℕ) (a : Outcome ℕ) → result w ≡ makes 0 o fs vs → a ≡ confirmed (look_of r w) e w → a ≡ made_for r e (makes 0 o' fs vs)
   unfolding made_for
   made_word w a h t = rw (← q, ← h) t
 
@@ -76,9 +91,9 @@ unfolding made_for encoded_from
 made_is t e vs (some i) h = refl
 made_is t e vs none h = confirm_is t e _ (h refl)
 
-pub encode_faulty : (ws : List ℕ) (e : ℕ) (vs : List ℕ) (a b : ℕ) → read_table ws ≡ faulty a b → faulty a b ≡ encode_of (read_table ws) e vs
+pub encode_refused : (ws : List ℕ) (e : ℕ) (vs : List ℕ) (r : Refusal) → Reads ws (Err r) → refused_as r ≡ encode_of (read_table ws) e vs
 unfolding encode_of
-encode_faulty ws e vs a b h = rw h
+encode_refused ws e vs r reads = read_refused ws r reads (λ (o : Outcome Table). encode_of o e vs) (λ n p. refl)
 
 module _ (ws : List ℕ) (t : table_check ws ≡ fine) (e : ℕ) (vs : List ℕ) where
   pub encode_none : count_of (word ws 0) ≤ e → refused 11 0 0 ≡ encode_of (read_table ws) e vs

@@ -4,12 +4,13 @@ use mathlib.Core.List.{List, [], ◌∷◌}
 use Prim.Native.Nat.{ℕ, zero, suc, ◌≤◌}
 use native.Mathlib.Omega.{arith}
 use lib.ListN.{length}
+use Rattle.std.specs.Prelude.{Option, Some, Result, Ok}
+use Rattle.words.specs.declared.Refusal.{Refusal}
 use Rattle.words.specs.Words.{word}
 use Rattle.table.specs.Table.{Entry, entry_number, entry_place, table_of, fields_of, count_of}
 use Rattle.table.proofs.Laws.{length_entries, length_fields}
 use Rattle.operands.specs.Answers.{first_words, Decodes}
-use Rattle.operands.specs.declared.Decoding.{Decoding}
-use Rattle.operands.specs.declared.Decoding.TheVariants as decoding
+use Rattle.operands.specs.declared.Decoded as Answered
 use Rattle.operands.proofs.Inverse.{decode_reads, decoded, selected_lt, length_values}
 use Rattle.operands.proofs.Answering.{stands}
 
@@ -19,7 +20,7 @@ length_firsts zero out = refl
 length_firsts (suc n) [] = ap suc (length_firsts n [])
 length_firsts (suc n) (x ∷ out) = ap suc (length_firsts n out)
 
-module _ (ws : List ℕ) (w : ℕ) (before after : List ℕ) (e n : ℕ) (d : Decodes ws w before after (decoding.Entry e n)) where
+module _ (ws : List ℕ) (w : ℕ) (before after : List ℕ) (e n : ℕ) (d : Decodes ws w before after (Ok (Some (record { entry = e; count = n })))) where
   pub decode_count : n ≡ length (entry_number (table_of ws).entries e).fields
   decode_count =
       let r = decode_reads ws w (length before) _ (sym d.answer) in
@@ -36,5 +37,6 @@ module _ (ws : List ℕ) (w : ℕ) (before after : List ℕ) (e n : ℕ) (d : De
       omega (arith, s.few)
 
 -- the same of an answer that is an entry
-pub answered_few : (ws : List ℕ) (w : ℕ) (before after : List ℕ) (r : Decoding) (e n : ℕ) → r ≡ decoding.Entry e n → Decodes ws w before after r → n ≤ 8
-answered_few ws w before after r e n k d = decode_few ws w before after e n (rw k at d)
+pub answered_few : (ws : List ℕ) (w : ℕ) (before after : List ℕ) (r : Result (Option Answered.Decoded) Refusal) (d : Answered.Decoded) → r ≡ Ok (Some d)
+    → Decodes ws w before after r → d.count ≤ 8
+answered_few ws w before after r d k h = decode_few ws w before after d.entry d.count (rw k at h)

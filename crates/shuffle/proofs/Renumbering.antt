@@ -15,10 +15,10 @@ use Rattle.words.proofs.Logic.{cases, same}
 use Rattle.table.specs.Table.{Entry, kind_of}
 use Rattle.choice.specs.Rule.{Choice, names, nothing, ambiguous, moved_choice, selects}
 use Rattle.choice.proofs.Judging.{judge_lt}
-use Rattle.flat.specs.Nodes.{header_of, test_node, names_node, nothing_node, node_of}
-use Rattle.flat.specs.declared.Header.TheVariants.{Bad, Good}
+use Rattle.flat.specs.Nodes.{good, header_of, test_node, names_node, nothing_node, node_of}
+use Rattle.std.specs.Prelude.{Option, Some, None}
 use Rattle.flat.specs.declared.Node.{Node}
-use Rattle.flat.specs.declared.Node.TheVariants.{Damaged, Asks, Names, Nothing}
+use Rattle.flat.specs.declared.Node.TheVariants.{Asks, Names, Nothing}
 use Rattle.flat.proofs.Reading.{header-cases, header_nodes, header_number, node-cases, Says, node_says}
 use Rattle.flat.specs.Walk.{Ending, arrives, breaks, after, path, ended, enters, walk_of, mask_or_zero}
 use Rattle.cell.specs.Cell.{Cell, start, zero_side, one_side, live, sure}
@@ -30,36 +30,36 @@ use Rattle.shuffle.specs.Moved.{moved_word, moved_words, NamesEntry, NamesOnly}
 use Rattle.shuffle.proofs.Moving.{stays, damaged_stays, leaf_is}
 use Rattle.shuffle.proofs.Shuffling.{judge_shuffled, as_many}
 
-abbrev moved_node : (ℕ → ℕ) → Node → Node
-moved_node to Damaged = Damaged
-moved_node to (Asks b k) = Asks b k
-moved_node to (Names e) = Names (to e)
-moved_node to Nothing = Nothing
+abbrev moved_node : (ℕ → ℕ) → Option Node → Option Node
+moved_node to None = None
+moved_node to (Some (Asks b k)) = Some (Asks b k)
+moved_node to (Some (Names e)) = Some (Names (to e))
+moved_node to (Some Nothing) = Some Nothing
 
 -- a node that names an entry is of kind 9, has no spare bit, and names it in bits 7–0
-names_leaf : (width n i x e : ℕ) → node_of width n i x ≡ Names e → (kind_of x ≡ 9) × (bits 27 8 x ≡ 0) × (bits 7 0 x ≡ e)
+names_leaf : (width n i x e : ℕ) → node_of width n i x ≡ Some (Names e) → (kind_of x ≡ 9) × (bits 27 8 x ≡ 0) × (bits 7 0 x ≡ e)
 unfolding node_of test_node names_node nothing_node
 names_leaf width n i x e h =
     cases (eqb (kind_of x) 8)
     (λ k. absurd (not_test (eqb (bits 22 16 x) 0 and ltb (bits 27 23 x) width and leb (i + 2) (bits 15 0 x) and leb (bits 15 0 x) n) (rw k at h)))
     (λ k. cases (eqb (kind_of x) 9)
     (λ t. cases (eqb (bits 27 8 x) 0)
-    (λ s. let q : Names (bits 7 0 x) ≡ Names e = rw (k, t, s) at h in let z : bits 7 0 x ≡ e = cc in (eqb-true _ _ t, eqb-true _ _ s, z))
+    (λ s. let q : Some (Names (bits 7 0 x)) ≡ Some (Names e) = rw (k, t, s) at h in let z : bits 7 0 x ≡ e = cc in (eqb-true _ _ t, eqb-true _ _ s, z))
     (λ s. absurd (damaged (rw (k, t, s) at h))))
     (λ t. absurd (cases (eqb (kind_of x) 10) (λ m. not_nothing (eqb (bits 27 0 x) 0) (rw (k, t, m) at h)) (λ m. damaged (rw (k, t, m) at h)))))
   where
-    not_test : (b : Bool) → cond b (Asks (bits 27 23 x) (bits 15 0 x)) Damaged ≡ Names e → ⊥
+    not_test : (b : Bool) → cond b (Some (Asks (bits 27 23 x) (bits 15 0 x))) None ≡ Some (Names e) → ⊥
     not_test true q = let z : ◌≡◌ {A = ℕ} 0 1 = cc in omega arith
     not_test false q = let z : ◌≡◌ {A = ℕ} 0 1 = cc in omega arith
 
-    not_nothing : (b : Bool) → cond b Nothing Damaged ≡ Names e → ⊥
+    not_nothing : (b : Bool) → cond b (Some Nothing) None ≡ Some (Names e) → ⊥
     not_nothing true q = let z : ◌≡◌ {A = ℕ} 0 1 = cc in omega arith
     not_nothing false q = let z : ◌≡◌ {A = ℕ} 0 1 = cc in omega arith
 
-    damaged : Damaged ≡ Names e → ⊥
+    damaged : None ≡ Some (Names e) → ⊥
     damaged q = let z : ◌≡◌ {A = ℕ} 0 1 = cc in omega arith
 
-node_leaf : (width n i x : ℕ) → kind_of x ≡ 9 → bits 27 8 x ≡ 0 → node_of width n i x ≡ Names (bits 7 0 x)
+node_leaf : (width n i x : ℕ) → kind_of x ≡ 9 → bits 27 8 x ≡ 0 → node_of width n i x ≡ Some (Names (bits 7 0 x))
 unfolding node_of names_node
 node_leaf width n i x k s = rw (k, s)
 
@@ -68,15 +68,15 @@ leaf_kind : (e : ℕ) → e < 256 → kind_of (leaf_word (names e)) ≡ 9
 unfolding leaf_word part
 leaf_kind e h = omega arith
 
-bad_header : (x words : ℕ) → kind_of x ≡ 9 → header_of x words ≡ Bad
+bad_header : (x words : ℕ) → kind_of x ≡ 9 → header_of x words ≡ None
 unfolding header_of ◌and◌
 bad_header x words k = rw k
 
-not_named : (to : ℕ → ℕ) (y : Node) → ((e : ℕ) → y ≡ Names e → ⊥) → moved_node to y ≡ y
-not_named to Damaged h = refl
-not_named to (Asks b k) h = refl
-not_named to (Names e) h = absurd (h e refl)
-not_named to Nothing h = refl
+not_named : (to : ℕ → ℕ) (y : Option Node) → ((e : ℕ) → y ≡ Some (Names e) → ⊥) → moved_node to y ≡ y
+not_named to None h = refl
+not_named to (Some (Asks b k)) h = refl
+not_named to (Some (Names e)) h = absurd (h e refl)
+not_named to (Some Nothing) h = refl
 
 -- how a path ends, its entry moved
 abbrev moved_ending : (ℕ → ℕ) → Ending → Ending
@@ -109,7 +109,7 @@ module _ (es fs : List Entry) (s : Shuffled es fs) (few : length es ≤ 256) whe
         (λ u. let d = eqb-false _ _ u in rw (damaged_stays s.to x d) (sym (not_named s.to _ (λ e q. d (names_leaf width n i x e q).1)))))
         (λ t. let d = eqb-false _ _ t in rw (stays s.to x d) (sym (not_named s.to _ (λ e q. d (names_leaf width n i x e q).0))))
 
-    named_lt : (e : ℕ) → node_of width n i x ≡ Names e → e < length es
+    named_lt : (e : ℕ) → node_of width n i x ≡ Some (Names e) → e < length es
     named_lt e d = let (k, z, q) = names_leaf width n i x e d in rw q at (entry k z)
 
   -- ---- a choice
@@ -154,7 +154,7 @@ module _ (es fs : List Entry) (s : Shuffled es fs) (few : length es ≤ 256) whe
         (node-cases (node_of width n i (word words i))
         (λ d. rw d)
         (λ b k d.
-        let t : Says width n i (Asks b k) = rw d at (node_says width n i (word words i)) in
+        let t : Says width n i (Some (Asks b k)) = rw d at (node_says width n i (word words i)) in
         rw (d, check_renamed fuel (zero_side c b) (i + 1) (omega (arith, t.2, t.3)), check_renamed fuel (one_side c b) k t.3))
         (λ e d. rw (d, selects_moved (settled es c) e (settles c) (named_lt (word words i) (only i l) width n i e d)))
         (λ d. rw (d, nothing_moved (settled es c))))
@@ -169,7 +169,7 @@ module _ (es fs : List Entry) (s : Shuffled es fs) (few : length es ≤ 256) whe
         (node-cases (node_of width n i (word words i))
         (λ d. rw d)
         (λ b k d.
-        let t : Says width n i (Asks b k) = rw d at (node_says width n i (word words i)) in
+        let t : Says width n i (Some (Asks b k)) = rw d at (node_says width n i (word words i)) in
         let on : cond (bit w b) k (i + 1) ≤ n = cases (bit w b) (λ q. rw q t.3) (λ q. rw q (omega (arith, t.2, t.3))) in
         rw d (ap (after b) (path_renamed fuel w (cond (bit w b) k (i + 1)) on) ∙ after_moved s.to b (path fuel words width n w (cond (bit w b) k (i + 1)))))
         (λ e d. rw d)
@@ -190,7 +190,7 @@ module _ (es fs : List Entry) (s : Shuffled es fs) (few : length es ≤ 256) whe
         (λ u. rw (damaged_stays s.to (word words 0) (eqb-false _ _ u))))
         (λ t. rw (stays s.to (word words 0) (eqb-false _ _ t))))
 
-    nodes_only : (v n : ℕ) → header_of (word words 0) (length words) ≡ Good v n → (i : ℕ) → i ≤ n → NamesEntry es (word words i)
+    nodes_only : (v n : ℕ) → header_of (word words 0) (length words) ≡ good v n → (i : ℕ) → i ≤ n → NamesEntry es (word words i)
     nodes_only v n d i h = only i (omega (arith, header_number (word words 0) (length words) v n d))
 
     pub accepts_renamed : (width : ℕ) → accepts fs width (moved_words s.to words) ≡ accepts es width words

@@ -3,8 +3,8 @@
 // ends with the error.
 #![tactic(auto)]
 
-ghost use Rattle.std.specs.Prelude.{◌≡◌, ◌<◌, ◌≤◌, take, length, IfOk, OnOk};
-ghost use Rattle.std.specs.Io.KnownBytes.{Appends, Consumes, IsAtEnd};
+ghost use Rattle.std.specs.Prelude.{◌≡◌, ◌<◌, ◌≤◌, take, length, IfOk, OnOk, OnErr};
+ghost use Rattle.std.specs.Io.KnownBytes.{Appends, Consumes, IsAtEnd, Keeps, append_known as held};
 ghost use Rattle.std.specs.Fmt.{decimal};
 ghost use Rattle.streams.specs.Hex.{eight_digits};
 
@@ -18,6 +18,7 @@ pub const PAGE_BYTES: usize = 65536;
 pub fn page() -> [u8; PAGE_BYTES]
     ensures { 65536 ≡ length result }
 {
+    // kept: a program has no heap
     [0; PAGE_BYTES]
 }
 
@@ -29,6 +30,7 @@ pub fn fill<R: Read>(input: &mut R, buffer: &mut [u8]) -> io::Result<usize>
     ensures end { IfOk result (λ n. n < length buffer.new → IsAtEnd (R.remaining input.new)) }
 {
     let mut done = 0;
+    // kept: a turn goes on by as many bytes as came, which no range and no iterator does
     while done < buffer.len() {
         let n = input.read(&mut buffer[done..])?;
         if n == 0 {
@@ -47,6 +49,15 @@ pub fn write<W: Write>(output: &mut W, bytes: &[u8]) -> io::Result<()>
     output.flush()
 }
 
+// Writes a page's first bytes, and leaves it as it was: of a page that is lent on, no more than its length is known.
+fn write_first<W: Write>(output: &mut W, page: &mut [u8], end: usize) -> io::Result<()>
+    requires { end ≤ length page.old }
+    ensures written { OnOk result (Appends (W.contents output.old) (W.contents output.new) (take end page.old)) }
+    ensures page { page.new ≡ page.old }
+{
+    write(output, &page[..end])
+}
+
 // Writes a number in decimal.
 pub fn write_decimal<W: Write>(output: &mut W, n: u64) -> io::Result<()>
     ensures { OnOk result (Appends (W.contents output.old) (W.contents output.new) (decimal n)) }
@@ -59,6 +70,78 @@ pub fn write_word<W: Write>(output: &mut W, w: u32) -> io::Result<()>
     ensures { OnOk result (Appends (W.contents output.old) (W.contents output.new) (eight_digits w)) }
 {
     write!(output, "{w:08x}")
+}
+
+// An output that bytes go to a page at a time: in room that is lent, the page holds those that are still to be written.
+#[derive(Drop)]
+pub struct Pages<'a, W> {
+    pub output: &'a mut W,
+    pub room: &'a mut [u8],
+    pub end: usize,
+    pub ghost within: { end ≤ length room.now },
+}
+
+impl<'a, W: Write> Pages<'a, W> {
+    // With nothing on the page.
+    pub fn new(output: &'a mut W, room: &'a mut [u8]) -> Pages<'a, W>
+        ensures output { result.output.now ≡ output.old }
+        ensures room { result.room.now ≡ room.old }
+        ensures empty { result.end ≡ 0 }
+    {
+        Pages {
+            output,
+            room,
+            end: 0,
+        }
+    }
+
+    // Writes out what is on the page.
+    pub fn flush(&mut self) -> io::Result<()>
+        ensures written { OnOk result (Keeps (held (W.contents self.old.output.now) (take self.old.end self.old.room.now)) (W.contents self.new.output.now)) }
+        ensures empty { OnOk result (self.new.end ≡ 0) }
+        ensures room { self.new.room.now ≡ self.old.room.now }
+    {
+        write_first(self.output, self.room, self.end)?;
+        self.end = 0;
+        Ok(())
+    }
+
+    // Puts bytes that the page has no room for. It stands apart, since it is seldom needed.
+    #[cold]
+    #[inline(never)]
+    fn turn(&mut self, bytes: &[u8]) -> io::Result<()>
+        ensures appended { OnOk result (Appends
+            (held (W.contents self.old.output.now) (take self.old.end self.old.room.now))
+            (held (W.contents self.new.output.now) (take self.new.end self.new.room.now))
+            bytes.now) }
+        ensures failed { OnErr result (self.new.room.now ≡ self.old.room.now) }
+    {
+        self.flush()?;
+        if self.room.len() < bytes.len() {
+            return write(self.output, bytes);
+        }
+        self.end = bytes.len();
+        self.room[..self.end].copy_from_slice(bytes);
+        Ok(())
+    }
+
+    // Puts bytes on the page; one that has no room for them is written out first.
+    #[inline(always)]
+    pub fn put(&mut self, bytes: &[u8]) -> io::Result<()>
+        ensures appended { OnOk result (Appends
+            (held (W.contents self.old.output.now) (take self.old.end self.old.room.now))
+            (held (W.contents self.new.output.now) (take self.new.end self.new.room.now))
+            bytes.now) }
+        ensures failed { OnErr result (self.new.room.now ≡ self.old.room.now) }
+    {
+        if self.room.len() - self.end < bytes.len() {
+            return self.turn(bytes);
+        }
+        let end = self.end + bytes.len();
+        self.room[self.end..end].copy_from_slice(bytes);
+        self.end = end;
+        Ok(())
+    }
 }
 
 #[cfg(test)]
@@ -116,6 +199,34 @@ mod tests {
         let mut input = &b"abcdef"[..];
         assert!(rt; fill(&mut input, &mut buffer).is_ok_and(|n| n == 4));
         assert_eq!(rt; input, b"ef".as_slice());
+    }
+
+    // A page is written out when it is full, and at the end; bytes that no page takes are written at once.
+    #[test]
+    fn writes_pages(rt: HostRuntime) -> io::Result<()> {
+        let mut text = Vec::new(rt.alloc());
+        let mut room = [0u8; 4];
+        let mut pages = Pages::new(&mut text, &mut room);
+        pages.put(b"abc")?;
+        pages.put(b"")?;
+        pages.put(b"de")?;
+        pages.put(b"fghij")?;
+        pages.put(b"klmn")?;
+        pages.flush()?;
+        pages.flush()?;
+        assert_eq!(rt; text.as_slice(), b"abcdefghijklmn".as_slice());
+        Ok(())
+    }
+
+    // A page that can't be written out is an error.
+    #[test]
+    fn fails_with_a_page(rt: HostRuntime) {
+        let mut output = Narrow(1);
+        let mut room = [0u8; 2];
+        let mut pages = Pages::new(&mut output, &mut room);
+        assert!(rt; pages.put(b"ab").is_ok());
+        assert!(rt; pages.put(b"c").is_err());
+        assert!(rt; pages.flush().is_err());
     }
 
     // A write that fails in mid-stream is not hidden.

@@ -1,20 +1,20 @@
--- Each case of reading's answer says another thing, so that the promise fixes the answer itself. Assumes nothing.
-use mathlib.Core.Path.{◌≡◌, refl}
-use Rattle.words.specs.Outcome.{Outcome, result, faulty, refused}
-use Rattle.words.proofs.Logic.{one_to_one}
-use Rattle.table.specs.Answer.{Shape, said}
-use Rattle.table.specs.declared.Answer.{Answer}
-use Rattle.table.specs.declared.Answer.TheVariants.{Accepted, Refused}
+-- Each case of reading's answer says another thing, so that the promise fixes the answer itself: its refusal, or its shape. Assumes nothing.
+use mathlib.Core.Path.{◌≡◌, refl, sym, ◌∙◌}
+use Rattle.std.specs.Prelude.{Result, Ok, Err}
+use Rattle.words.specs.Outcome.{said as said_of}
+use Rattle.words.specs.declared.Refusal.{Refusal}
+use Rattle.words.proofs.Outcomes.{said_one as one}
+use Rattle.table.specs.Answer.{Shape, shape, said}
+use Rattle.table.specs.declared.Table.{Table}
 
-back : Outcome Shape → Answer
-back (result s) = Accepted s.width s.entries
-back (faulty n p) = Refused n p
-back (refused n p w) = Refused n p
+-- the answer with the shape in place of the table
+abbrev pub shaped : Result Table Refusal → Result Shape Refusal
+shaped (Ok t) = Ok (shape t)
+shaped (Err r) = Err r
 
-back_said : (r : Answer) → back (said r) ≡ r
-unfolding back
-back_said (Accepted width count) = refl
-back_said (Refused n p) = refl
+said_shaped : (r : Result Table Refusal) → said_of (shaped r) ≡ said r
+said_shaped (Ok t) = refl
+said_shaped (Err r) = refl
 
-pub said_one : (r s : Answer) → said r ≡ said s → r ≡ s
-said_one = one_to_one said back back_said
+pub said_one : (r s : Result Table Refusal) → said r ≡ said s → shaped r ≡ shaped s
+said_one r s e = one (shaped r) (shaped s) (said_shaped r ∙ e ∙ sym (said_shaped s))

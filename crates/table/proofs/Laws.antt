@@ -1,27 +1,32 @@
 -- Laws of the reader's definitions: how a check computes, loops over items, what a check without fault shows. Assumes nothing.
 use mathlib.Core.Path.{◌≡◌, refl, sym, ap, ◌∙◌}
-use mathlib.Core.List.{List, [], ◌∷◌}
+use mathlib.Core.List.{List}
 use mathlib.Core.Bool.{Bool, true, false, cond}
 use Prim.Native.Nat.{ℕ, zero, suc, ◌+◌, ◌-◌, ◌*◌, ◌≤◌, ◌<◌}
-use native.Mathlib.Nat.{add-zero, eq-or-lt_of_le}
-use mathlib.Core.Logic.{⊎_elim, inl, inr}
-use types.Run.{OneOf}
-use native.Mathlib.Numerals.{sub-one, add-one}
+use native.Mathlib.Nat.{eq-or-lt_of_le}
+use mathlib.Core.Logic.{⊎_elim}
+use native.Mathlib.Numerals.{add-one}
 use native.Mathlib.Omega.{arith}
 use lib.Bits.{bit_and, bit_or}
 use lib.Dec.{eqb, leb, ltb}
 use lib.ListN.{length, get_or, set}
 use lib.Seq.{get_or-set_same, get_or-set_other}
-use borrow.Author.Tests.{eq-eqb, ne_eqb, eqb-true, eqb-false, ltb-true, ltb-false, leb-true, lt-leb, le-leb, lt-ltb, le-ltb}
+use borrow.Author.Tests.{eqb-true, eqb-false, ltb-true, ltb-false, leb-true, le-leb, lt-ltb, le-ltb}
 use Rattle.words.specs.Words.{word, part}
 use Rattle.words.specs.Tests.{◌and◌, ◌or◌}
-use Rattle.words.proofs.Logic.{cases, or_i, or_il, or_ir}
+use Rattle.words.proofs.Logic.{cases}
 use Rattle.words.specs.Outcome.{result, faulty}
-use Rattle.table.specs.Table.{kind_of, field_low, field_width, field_bits, form_of, fraction_of, own_bits, size_of, fields_of, conditions_of, fields_at, unmatching_at, conditions_at, condition_end, conditions_end, has_cycles, fields_place, entry_end, entry_place, entries_at, count_of, width_of}
+use Rattle.table.specs.Table.{kind_of, field_low, field_width, field_bits, form_of, fraction_of, own_bits, size_of, fields_at, unmatching_at, conditions_at, condition_end, conditions_end, has_cycles, fields_place, entry_end, entry_place, entries_at, count_of, width_of}
 use Rattle.table.specs.Check.{Check, fine, fault, ◌then◌, need, has, pattern_check, unmatching_check, unmatchings_check, condition_check, conditions_check, spare_clear, form_fits, field_word, field_rule, field_check, fields_check, head_check, cycles_check, entry_check, entries_check, first_check, table_check, read_table}
-use Rattle.table.specs.Answer.{step, fault_number, shape_of, place_of, Placed}
-use Rattle.table.specs.declared.Step.{Step}
-use Rattle.table.specs.declared.Step.TheVariants.{Next, Fault}
+use Rattle.std.specs.Prelude.{Result, Ok, Err, IsErrAnd}
+use Rattle.words.specs.Outcome.{number_of}
+use Rattle.table.specs.declared.reading.Flaw.{Flaw}
+use Rattle.table.specs.Answer.{checked, fault_number, shape_of, place_of, Placed}
+
+-- a check that a function passes on, by `?`, says the same of its own answer
+pub passed_on : {A : Type 0} (r : Result A Flaw) (e : Flaw) → IsErrAnd r (λ y. y ≡ e) → checked r ≡ fault (number_of e.fault) e.place
+passed_on (Ok a) e h = absurd h
+passed_on (Err y) e h = rw h
 
 -- ---- how a check computes, for `simp`: `simp (tests, checks)` at a return of a check
 pub need_yes : (n p : ℕ) → need true n p ≡ fine
@@ -40,14 +45,6 @@ pub fault_then : (n p : ℕ) (v : Check) → fault n p then v ≡ fault n p
 unfolding ◌then◌
 fault_then n p v = refl
 
-pub step_of_fine : (q : ℕ) → step fine q ≡ Next q
-unfolding step
-step_of_fine q = refl
-
-pub step_of_fault : (n p q : ℕ) → step (fault n p) q ≡ Fault n p
-unfolding step
-step_of_fault n p q = refl
-
 pub number_of_fine : fault_number fine ≡ 0
 unfolding fault_number
 number_of_fine = refl
@@ -56,29 +53,14 @@ pub number_of_fault : (n p : ℕ) → fault_number (fault n p) ≡ n
 unfolding fault_number
 number_of_fault n p = refl
 
-pub ruleset checks = (need_yes, need_no, fine_then, fault_then, step_of_fine, step_of_fault, number_of_fine, number_of_fault)
+pub ruleset checks = (need_yes, need_no, fine_then, fault_then, number_of_fine, number_of_fault)
 
--- a callee's fault is the first fault of what begins with its check
-pub step_fault : (v w : Check) (q q' n p : ℕ) → step v q ≡ Fault n p → Fault n p ≡ step (v then w) q'
-unfolding step ◌then◌
-step_fault fine w q q' n p e = absurd (let z : ◌≡◌ {A = ℕ} 0 1 = cc in omega arith)
-step_fault (fault a b) w q q' n p e = sym e
+-- a check that begins with one that was passed, or with one that was not
+pub goes_on : (v w x : Check) → fine ≡ v → x ≡ w → x ≡ v then w
+goes_on v w x e h = rw (← e, fine_then) h
 
--- where a callee goes on, what is left is the rest
-pub step_next : (v w : Check) (q q' n : ℕ) → step v q ≡ Next n → step (v then w) q' ≡ step w q'
-unfolding step ◌then◌
-step_next fine w q q' n e = refl
-step_next (fault a b) w q q' n e = absurd (let z : ◌≡◌ {A = ℕ} 0 1 = cc in omega arith)
-
-pub next_fine : (v : Check) (q n : ℕ) → step v q ≡ Next n → v ≡ fine
-unfolding step
-next_fine fine q n e = refl
-next_fine (fault a b) q n e = absurd (let z : ◌≡◌ {A = ℕ} 0 1 = cc in omega arith)
-
-pub next_place : (v : Check) (q n : ℕ) → step v q ≡ Next n → n ≡ q
-unfolding step
-next_place fine q n e = cc
-next_place (fault a b) q n e = absurd (let z : ◌≡◌ {A = ℕ} 0 1 = cc in omega arith)
+pub stops : (v w : Check) (a b : ℕ) → fault a b ≡ v → fault a b ≡ v then w
+stops v w a b e = rw (← e, fault_then)
 
 pub then_l : (a b : Check) → a then b ≡ fine → a ≡ fine
 unfolding ◌then◌
@@ -107,78 +89,62 @@ pub unmatching_fits : (ws : List ℕ) (own p : ℕ) → unmatching_check ws own 
 unfolding unmatching_check
 unmatching_fits ws own p e = omega (arith, pattern_fits ws own (p + 1) (then_r _ _ (then_r _ _ (then_r _ _ e))))
 
-pub pattern_next : (ws : List ℕ) (own p q : ℕ) → step (pattern_check ws own p) (p + 2) ≡ Next q → q ≤ length ws
-pattern_next ws own p q e = rw (next_place _ _ _ e) (pattern_fits ws own p (next_fine _ _ _ e))
+-- A loop over n items from place p on. One item: its check f and the place after it; all: their check F. Where item p is without fault,
+-- what is left is the rest from the place after it on; where it has a fault, that is the fault of all.
+module _ (f : ℕ → Check) (after : ℕ → ℕ) (F : ℕ → ℕ → Check) (F-suc : (n p : ℕ) → F (suc n) p ≡ f p then F n (after p)) where
+  pub loop_on : (n i p : ℕ) → i < n → fine ≡ f p → F (n - i) p ≡ F (n - (i + 1)) (after p)
+  loop_on n i p h e =
+      let g : n - i ≡ suc (n - (i + 1)) = omega arith in
+      rw (g, F-suc, ← e, fine_then)
 
--- a matching pattern, then its unmatching ones
-pub patterns_on : (ws : List ℕ) (own p q n m : ℕ) (r : Step) → step (pattern_check ws own (p + 1)) (p + 1 + 2) ≡ Next q → n ≡ m
-    → r ≡ step (unmatchings_check ws own n q) (q + 3 * n) → r ≡ step (pattern_check ws own (p + 1) then unmatchings_check ws own m (p + 3)) (p + 3 + 3 * m)
-patterns_on ws own p q n m r e h t =
-    let qe : q ≡ p + 3 = omega (arith, next_place _ _ _ e) in
-    rw (← qe, ← h) (t ∙ sym (step_next _ _ _ _ _ e))
+  pub loop_stop : (n i p a b : ℕ) → i < n → fault a b ≡ f p → F (n - i) p ≡ fault a b
+  loop_stop n i p a b h e =
+      let g : n - i ≡ suc (n - (i + 1)) = omega arith in
+      rw (g, F-suc, ← e, fault_then)
 
--- A loop over n items from place p on. One item: its check f and the place after it; all: their check F and the place after the last, E.
--- Where item p goes on to q, what is left is the n - 1 items from q on; where it stops, all stop there.
-module _ (f : ℕ → Check) (after : ℕ → ℕ) (F : ℕ → ℕ → Check) (E : ℕ → ℕ → ℕ)
-    (F-suc : (n p : ℕ) → F (suc n) p ≡ f p then F n (after p))
-    (E-suc : (n p : ℕ) → E (suc n) p ≡ E n (after p)) where
-  pub loop_on : (n p q : ℕ) → 0 < n → step (f p) (after p) ≡ Next q → step (F n p) (E n p) ≡ step (F (n - 1) q) (E (n - 1) q)
-  loop_on zero p q h e = absurd (omega arith)
-  loop_on (suc n) p q h e =
-      rw (sub-one (suc n), F-suc, E-suc, next_place (f p) (after p) q e) (step_next (f p) (F n (after p)) (after p) (E n (after p)) q e)
-
-  pub loop_stop : (n p a b : ℕ) → 0 < n → step (f p) (after p) ≡ Fault a b → step (F n p) (E n p) ≡ Fault a b
-  loop_stop zero p a b h e = absurd (omega arith)
-  loop_stop (suc n) p a b h e = rw (F-suc, E-suc) (sym (step_fault (f p) (F n (after p)) (after p) (E n (after p)) a b e))
-
--- after the last item
-pub loop_done : (F : ℕ → ℕ → Check) (E : ℕ → ℕ → ℕ) → ((p : ℕ) → F 0 p ≡ fine) → ((p : ℕ) → E 0 p ≡ p) → (n p : ℕ) → n ≤ 0 → step (F n p) (E n p) ≡ Next p
-unfolding step
-loop_done F E F0 E0 zero p h = rw (F0, E0)
-loop_done F E F0 E0 (suc n) p h = absurd (omega arith)
+-- none is left
+none_left : {n i : ℕ} → n ≤ i → n - i ≡ 0
+none_left h = omega arith
 
 module _ (ws : List ℕ) (own : ℕ) where
   unmatchings_suc : (n p : ℕ) → unmatchings_check ws own (suc n) p ≡ unmatching_check ws own p then unmatchings_check ws own n (p + 3)
   unfolding unmatchings_check
   unmatchings_suc n p = refl
 
-  unmatchings_end : (n p : ℕ) → p + 3 * suc n ≡ p + 3 + 3 * n
-  unmatchings_end n p = omega arith
+  pub unmatchings_on : (n i p : ℕ) → i < n → fine ≡ unmatching_check ws own p → unmatchings_check ws own (n - i) p ≡ unmatchings_check ws own (n - (i + 1)) (p + 3)
+  unmatchings_on = loop_on (unmatching_check ws own) (λ p. p + 3) (unmatchings_check ws own) unmatchings_suc
 
-  pub unmatchings_on : (n p q : ℕ) → 0 < n → step (unmatching_check ws own p) (p + 3) ≡ Next q
-      → step (unmatchings_check ws own n p) (p + 3 * n) ≡ step (unmatchings_check ws own (n - 1) q) (q + 3 * (n - 1))
-  unmatchings_on = loop_on (unmatching_check ws own) (λ p. p + 3) (unmatchings_check ws own) (λ n p. p + 3 * n) unmatchings_suc unmatchings_end
+  pub unmatchings_stop : (n i p a b : ℕ) → i < n → fault a b ≡ unmatching_check ws own p → unmatchings_check ws own (n - i) p ≡ fault a b
+  unmatchings_stop = loop_stop (unmatching_check ws own) (λ p. p + 3) (unmatchings_check ws own) unmatchings_suc
 
-  pub unmatchings_stop : (n p a b : ℕ) → 0 < n → step (unmatching_check ws own p) (p + 3) ≡ Fault a b → step (unmatchings_check ws own n p) (p + 3 * n) ≡ Fault a b
-  unmatchings_stop = loop_stop (unmatching_check ws own) (λ p. p + 3) (unmatchings_check ws own) (λ n p. p + 3 * n) unmatchings_suc unmatchings_end
-
-  pub unmatching_next : (p q : ℕ) → step (unmatching_check ws own p) (p + 3) ≡ Next q → q ≤ length ws
-  unmatching_next p q e = rw (next_place _ _ _ e) (unmatching_fits ws own p (next_fine _ _ _ e))
-
-  pub unmatchings_done : (n p : ℕ) → n ≤ 0 → step (unmatchings_check ws own n p) (p + 3 * n) ≡ Next p
+  pub unmatchings_done : (n i p : ℕ) → n ≤ i → unmatchings_check ws own (n - i) p ≡ fine
   unfolding unmatchings_check
-  unmatchings_done = loop_done (unmatchings_check ws own) (λ n p. p + 3 * n) (λ p. refl) (λ p. omega arith)
+  unmatchings_done n i p h = rw (none_left h)
+
+module _ (ws : List ℕ) where
+  -- one condition further on
+  pub ends_on : (n i p : ℕ) → i < n → conditions_end ws (n - i) p ≡ conditions_end ws (n - (i + 1)) (condition_end ws p)
+  unfolding conditions_end
+  ends_on n i p h = let g : n - i ≡ suc (n - (i + 1)) = omega arith in rw g
+
+  pub ends_done : (n i p : ℕ) → n ≤ i → conditions_end ws (n - i) p ≡ p
+  unfolding conditions_end
+  ends_done n i p h = rw (none_left h)
 
 module _ (ws : List ℕ) (own : ℕ) where
   conditions_suc : (n p : ℕ) → conditions_check ws own (suc n) p ≡ condition_check ws own p then conditions_check ws own n (condition_end ws p)
   unfolding conditions_check
   conditions_suc n p = refl
 
-  conditions_end_lem : (n p : ℕ) → conditions_end ws (suc n) p ≡ conditions_end ws n (condition_end ws p)
-  unfolding conditions_end
-  conditions_end_lem n p = refl
+  pub conditions_on : (n i p : ℕ) → i < n → fine ≡ condition_check ws own p → conditions_check ws own (n - i) p ≡ conditions_check ws own (n - (i + 1)) (condition_end ws p)
+  conditions_on = loop_on (condition_check ws own) (condition_end ws) (conditions_check ws own) conditions_suc
 
-  pub conditions_on : (n p q : ℕ) → 0 < n → step (condition_check ws own p) (condition_end ws p) ≡ Next q
-      → step (conditions_check ws own n p) (conditions_end ws n p) ≡ step (conditions_check ws own (n - 1) q) (conditions_end ws (n - 1) q)
-  conditions_on = loop_on (condition_check ws own) (condition_end ws) (conditions_check ws own) (conditions_end ws) conditions_suc conditions_end_lem
+  pub conditions_stop : (n i p a b : ℕ) → i < n → fault a b ≡ condition_check ws own p → conditions_check ws own (n - i) p ≡ fault a b
+  conditions_stop = loop_stop (condition_check ws own) (condition_end ws) (conditions_check ws own) conditions_suc
 
-  pub conditions_stop : (n p a b : ℕ) → 0 < n → step (condition_check ws own p) (condition_end ws p) ≡ Fault a b
-      → step (conditions_check ws own n p) (conditions_end ws n p) ≡ Fault a b
-  conditions_stop = loop_stop (condition_check ws own) (condition_end ws) (conditions_check ws own) (conditions_end ws) conditions_suc conditions_end_lem
-
-  pub conditions_done : (n p : ℕ) → n ≤ 0 → step (conditions_check ws own n p) (conditions_end ws n p) ≡ Next p
-  unfolding conditions_check conditions_end
-  conditions_done = loop_done (conditions_check ws own) (conditions_end ws) (λ p. refl) (λ p. refl)
+  pub conditions_done : (n i p : ℕ) → n ≤ i → conditions_check ws own (n - i) p ≡ fine
+  unfolding conditions_check
+  conditions_done n i p h = rw (none_left h)
 
   -- where all unmatching patterns are without fault, they stand in the table
   pub unmatchings_fit : (n p : ℕ) → p ≤ length ws → unmatchings_check ws own n p ≡ fine → p + 3 * n ≤ length ws
@@ -192,9 +158,6 @@ module _ (ws : List ℕ) (own : ℕ) where
   condition_fits p e =
       let t = then_r _ _ (then_r _ _ (then_r _ _ (then_r _ _ e))) in
       unmatchings_fit _ (p + 3) (omega (arith, pattern_fits ws own (p + 1) (then_l _ _ t))) (then_r _ _ t)
-
-  pub condition_next : (p q : ℕ) → step (condition_check ws own p) (condition_end ws p) ≡ Next q → q ≤ length ws
-  condition_next p q e = rw (next_place _ _ _ e) (condition_fits p (next_fine _ _ _ e))
 
 -- ---- fields
 
@@ -235,6 +198,16 @@ unfolding field_word spare_clear form_fits ◌and◌ ◌or◌
 word_plain w e = let p = plain_parts w e in
     simp (p.0, p.1, p.2, le-leb 0 (field_width w) (omega arith), checks)
 
+-- the bits of a field without fault are some, and below the width
+module _ (width size used w p : ℕ) where
+  pub rule_some : field_rule width size used w p ≡ fine → 0 < field_width w
+  unfolding field_rule
+  rule_some e = leb-true _ _ (need_true _ _ _ (then_l _ _ e))
+
+  pub rule_below : field_rule width size used w p ≡ fine → field_low w + field_width w ≤ width
+  unfolding field_rule
+  rule_below e = leb-true _ _ (need_true _ _ _ (then_l _ _ (then_r _ _ (then_r _ _ e))))
+
 module _ (ws : List ℕ) (width size used p : ℕ) where
   -- a field without fault stands in the table, and its bits are some, below the width
   pub field_fits : field_check ws width size used p ≡ fine → p + 1 ≤ length ws
@@ -251,12 +224,10 @@ module _ (ws : List ℕ) (width size used p : ℕ) where
   field_word_lem e = word_passes (word ws p) 0 p (ap fault_number (then_l _ _ (then_r _ _ e)) ∙ number_of_fine)
 
   pub field_some : field_check ws width size used p ≡ fine → 0 < field_width (word ws p)
-  unfolding field_rule
-  field_some e = leb-true _ _ (need_true _ _ _ (then_l _ _ (field_rule_lem e)))
+  field_some e = rule_some _ _ _ _ _ (field_rule_lem e)
 
   pub field_below : field_check ws width size used p ≡ fine → field_low (word ws p) + field_width (word ws p) ≤ width
-  unfolding field_rule
-  field_below e = leb-true _ _ (need_true _ _ _ (then_l _ _ (then_r _ _ (then_r _ _ (field_rule_lem e)))))
+  field_below e = rule_below _ _ _ _ _ (field_rule_lem e)
 
   -- none of them is used
   pub field_apart : field_check ws width size used p ≡ fine → bit_and used (field_bits (word ws p)) ≡ 0
@@ -264,24 +235,22 @@ module _ (ws : List ℕ) (width size used p : ℕ) where
   field_apart e = eqb-true _ _ (need_true _ _ _ (then_r _ _ (then_r _ _ (then_r _ _ (field_rule_lem e)))))
 
 module _ (ws : List ℕ) (e width size : ℕ) where
-  pub fields_on : (used n p q : ℕ) → 0 < n → step (field_check ws width size used p) (p + 1) ≡ Next q
-      → step (fields_check ws e width size used n p) (p + n) ≡ step (fields_check ws e width size (bit_or used (field_bits (word ws p))) (n - 1) q) (q + (n - 1))
+  pub fields_on : (used n i p : ℕ) → i < n → fine ≡ field_check ws width size used p
+      → fields_check ws e width size used (n - i) p ≡ fields_check ws e width size (bit_or used (field_bits (word ws p))) (n - (i + 1)) (p + 1)
   unfolding fields_check
-  fields_on used zero p q h t = absurd (omega arith)
-  fields_on used (suc n) p q h t =
-      let g : p + 1 + n ≡ p + suc n = omega arith in
-      rw (sub-one (suc n), next_place _ _ _ t, ← g) (step_next _ _ _ _ _ t)
+  fields_on used n i p h t =
+      let g : n - i ≡ suc (n - (i + 1)) = omega arith in
+      rw (g, ← t, fine_then)
 
-  pub fields_stop : (used n p a b : ℕ) → 0 < n → step (field_check ws width size used p) (p + 1) ≡ Fault a b
-      → step (fields_check ws e width size used n p) (p + n) ≡ Fault a b
+  pub fields_stop : (used n i p a b : ℕ) → i < n → fault a b ≡ field_check ws width size used p → fields_check ws e width size used (n - i) p ≡ fault a b
   unfolding fields_check
-  fields_stop used zero p a b h t = absurd (omega arith)
-  fields_stop used (suc n) p a b h t = sym (step_fault _ _ _ _ _ _ t)
+  fields_stop used n i p a b h t =
+      let g : n - i ≡ suc (n - (i + 1)) = omega arith in
+      rw (g, ← t, fault_then)
 
-  pub fields_done : (used n p : ℕ) → n ≤ 0 → step (fields_check ws e width size used n p) (p + n) ≡ step (need (eqb used (own_bits width size)) 4 e) p
+  pub fields_done : (used n i p : ℕ) → n ≤ i → fields_check ws e width size used (n - i) p ≡ need (eqb used (own_bits width size)) 4 e
   unfolding fields_check
-  fields_done used zero p h = rw add-zero
-  fields_done used (suc n) p h = absurd (omega arith)
+  fields_done used n i p h = rw (none_left h)
 
   pub fields_fit : (used n p : ℕ) → p ≤ length ws → fields_check ws e width size used n p ≡ fine → p + n ≤ length ws
   unfolding fields_check
@@ -317,32 +286,6 @@ module _ (ws : List ℕ) (width p : ℕ) where
   unfolding head_check
   head_below e = leb-true _ _ (need_true _ _ _ (then_l _ _ (then_r _ _ (then_r _ _ (then_r _ _ e)))))
 
-  -- the head word is right; size, own, n and m are what the code made of it
-  module _ (h : head_check ws width p ≡ fine) (size own : ℕ) (s : size ≡ size_of (word ws p)) (o : own ≡ own_bits width size) where
-    pub opcode_stop : (a b q : ℕ) → step (pattern_check ws own (p + 1)) (p + 1 + 2) ≡ Fault a b → Fault a b ≡ step (entry_check ws width p) q
-    unfolding entry_check
-    opcode_stop a b q t = rw (h, fine_then, ← s, ← o) (step_fault _ _ _ _ _ _ t)
-
-    module _ (d : pattern_check ws own (p + 1) ≡ fine) where
-      pub cycles_stop : (a b q : ℕ) → step (cycles_check ws p) (fields_place ws p) ≡ Fault a b → Fault a b ≡ step (entry_check ws width p) q
-      unfolding entry_check
-      cycles_stop a b q t = rw (h, fine_then, ← s, ← o, d, fine_then) (step_fault _ _ _ _ _ _ t)
-
-      -- f is where the code goes on to the fields
-      module _ (f : ℕ) (c : step (cycles_check ws p) (fields_place ws p) ≡ Next f) (n : ℕ) (k : n ≡ fields_of (word ws p)) where
-        abbrev fields_check_lem : Check
-        fields_check_lem = fields_check ws p width size (word ws (p + 1)) n f
-
-        pub fields_stop' : (a b q : ℕ) → step fields_check_lem (f + n) ≡ Fault a b → Fault a b ≡ step (entry_check ws width p) q
-        unfolding entry_check
-        fields_stop' a b q t = rw (h, fine_then, ← s, ← o, d, fine_then, next_fine _ _ _ c, fine_then, ← k, ← next_place _ _ _ c) (step_fault _ _ _ _ _ _ t)
-
-        pub conditions_rest : (m q : ℕ) (r : Step) → step fields_check_lem (f + n) ≡ Next q
-            → m ≡ conditions_of (word ws p) → r ≡ step (conditions_check ws own m q) (conditions_end ws m q) → r ≡ step (entry_check ws width p) (entry_end ws p)
-        unfolding entry_check
-        conditions_rest m q r t j u =
-            rw (h, fine_then, ← s, ← o, d, fine_then, next_fine _ _ _ c, fine_then, ← k, ← j, ← next_place _ _ _ c, ← next_place _ _ _ t) (u ∙ sym (step_next _ _ _ _ _ t))
-
   pub entry_fits : entry_check ws width p ≡ fine → entry_end ws p ≤ length ws
   unfolding entry_check
   entry_fits e =
@@ -352,48 +295,27 @@ module _ (ws : List ℕ) (width p : ℕ) where
       let f = cycles_fit ws p (omega (arith, pattern_fits ws _ (p + 1) (then_l _ _ t))) (then_l _ _ u) in
       conditions_fit ws _ _ _ (fields_fit ws p width (size_of (word ws p)) (word ws (p + 1)) _ (fields_place ws p) f (then_l _ _ v)) (then_r _ _ v)
 
-  pub entry_next : (q : ℕ) → step (entry_check ws width p) (entry_end ws p) ≡ Next q → q ≤ length ws
-  entry_next q e = rw (next_place _ _ _ e) (entry_fits (next_fine _ _ _ e))
-
 -- ---- all entries
--- a fault is no success
-pub fault_not_fine : (v : Check) (q a b : ℕ) → step v q ≡ Fault a b → v ≡ fine → ⊥
-unfolding step
-fault_not_fine fine q a b e t = let z : ◌≡◌ {A = ℕ} 0 1 = cc in omega arith
-fault_not_fine (fault n p) q a b e t = let z : ◌≡◌ {A = ℕ} 0 1 = cc in omega arith
-
 module _ (ws : List ℕ) (width : ℕ) where
   entries_suc : (n p : ℕ) → entries_check ws width (suc n) p ≡ entry_check ws width p then entries_check ws width n (entry_end ws p)
   unfolding entries_check
   entries_suc n p = refl
 
-  pub entries_on : (n k p q l : ℕ) → k < n → step (entry_check ws width p) (entry_end ws p) ≡ Next q
-      → step (entries_check ws width (n - k) p) l ≡ step (entries_check ws width (n - (k + 1)) q) l
-  entries_on n k p q l h e =
-      let g : n - k - 1 ≡ n - (k + 1) = omega arith in
-      rw (← g) (loop_on (entry_check ws width) (entry_end ws) (entries_check ws width) (λ n p. l) entries_suc (λ n p. refl) (n - k) p q (omega arith) e)
+  pub entries_on : (n i p : ℕ) → i < n → fine ≡ entry_check ws width p → entries_check ws width (n - i) p ≡ entries_check ws width (n - (i + 1)) (entry_end ws p)
+  entries_on = loop_on (entry_check ws width) (entry_end ws) (entries_check ws width) entries_suc
 
-  pub entries_stop : (n k p a b l : ℕ) → k < n → step (entry_check ws width p) (entry_end ws p) ≡ Fault a b
-      → step (entries_check ws width (n - k) p) l ≡ Fault a b
-  entries_stop n k p a b l h e =
-      loop_stop (entry_check ws width) (entry_end ws) (entries_check ws width) (λ n p. l) entries_suc (λ n p. refl) (n - k) p a b (omega arith) e
-
-  entries_none : (n p : ℕ) → n ≡ 0 → entries_check ws width n p ≡ need (leb (length ws) p) 2 p
-  unfolding entries_check
-  entries_none zero p h = refl
-  entries_none (suc n) p h = absurd (omega arith)
+  pub entries_stop : (n i p a b : ℕ) → i < n → fault a b ≡ entry_check ws width p → entries_check ws width (n - i) p ≡ fault a b
+  entries_stop = loop_stop (entry_check ws width) (entry_end ws) (entries_check ws width) entries_suc
 
   -- after the last entry: words left over, or the end
-  pub entries_over : (n k p l : ℕ) → n ≤ k → p < length ws → step (entries_check ws width (n - k) p) l ≡ Fault 2 p
-  entries_over n k p l h t = simp (entries_none (n - k) p (omega arith), lt-leb _ _ t, checks)
-
-  pub entries_done : (n k p l : ℕ) → n ≤ k → length ws ≤ p → step (entries_check ws width (n - k) p) l ≡ Next l
-  entries_done n k p l h t = simp (entries_none (n - k) p (omega arith), le-leb _ _ t, checks)
+  pub entries_done : (n i p : ℕ) → n ≤ i → entries_check ws width (n - i) p ≡ need (leb (length ws) p) 2 p
+  unfolding entries_check
+  entries_done n i p h = rw (none_left h)
 
 -- the place of the next entry
-pub place_next : (ws : List ℕ) (width k p q : ℕ) → p ≡ entry_place ws k → step (entry_check ws width p) (entry_end ws p) ≡ Next q → q ≡ entry_place ws (k + 1)
+pub place_next : (ws : List ℕ) (k p q : ℕ) → p ≡ entry_place ws k → q ≡ entry_end ws p → q ≡ entry_place ws (k + 1)
 unfolding entry_place
-place_next ws width k p q h e = rw (add-one k, next_place _ _ _ e, ← h)
+place_next ws k p q h e = rw (add-one k, e, ← h)
 
 -- no place stored, one more place stored
 pub places_none : (ws l : List ℕ) → ((j : ℕ) → get_or l j 0 ≡ 0) → Placed ws 0 l
@@ -416,19 +338,6 @@ pub placed_all : (ws l : List ℕ) (k n : ℕ) → k ≤ n → n ≤ k → Place
 placed_all ws l k n h g f = let e : k ≡ n = omega arith in rw e at f
 
 -- ---- the whole table
-
--- a table's first word is of kind 1 or 6
-module _ (k : ℕ) where
-  pub kind_yes : OneOf (1 ∷ 6 ∷ []) k → eqb k 1 or eqb k 6 ≡ true
-  kind_yes = ⊎_elim (λ e. or_il _ (eq-eqb _ _ e)) (λ e. or_ir _ (eq-eqb _ _ e))
-
-  pub kind_no : (OneOf (1 ∷ 6 ∷ []) k → ⊥) → eqb k 1 or eqb k 6 ≡ false
-  kind_no h = or_i (ne_eqb _ _ (λ e. h (inl e))) (ne_eqb _ _ (λ e. h (inr e)))
-
-pub fault_is : (v : Check) (q a b : ℕ) → step v q ≡ Fault a b → v ≡ fault a b
-unfolding step
-fault_is fine q a b e = absurd (let z : ◌≡◌ {A = ℕ} 0 1 = cc in omega arith)
-fault_is (fault n p) q a b e = cc
 
 module _ (ws : List ℕ) where
   pub first_some : first_check ws ≡ fine → 1 ≤ length ws

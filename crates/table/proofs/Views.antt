@@ -1,21 +1,22 @@
 -- What callers rely on, of a table without fault: its entries by their numbers and places, and what the reader's answer tells. Assumes nothing.
-use mathlib.Core.Path.{◌≡◌, refl, sym, ap, ◌∙◌}
+use mathlib.Core.Path.{◌≡◌, refl, sym, ◌∙◌}
 use mathlib.Core.List.{List}
 use Prim.Native.Nat.{ℕ, zero, suc, ◌+◌, ◌≤◌, ◌<◌}
 use native.Mathlib.Nat.{add-zero, zero-add}
 use native.Mathlib.Omega.{arith}
 use lib.ListN.{length, get_or}
-use borrow.Author.Tests.{leb-true, lt-ltb}
+use borrow.Author.Tests.{leb-true}
 use Rattle.words.specs.Words.{word}
-use Rattle.words.specs.Outcome.{result, faulty}
+use Rattle.std.specs.Prelude.{Err}
+use Rattle.words.specs.Outcome.{Outcome, result, faulty, refused_as}
+use Rattle.words.specs.declared.Refusal.{Refusal}
+use Rattle.words.proofs.Outcomes.{refused_no_result, fault_in_all}
 use Rattle.words.proofs.Logic.{cases}
-use Rattle.table.specs.Table.{Table, Entry, width_of, count_of, size_of, fields_of, has_cycles, opcode_place, fields_place, cycles_at, entry_at, entries_at, entry_place, table_of}
+use Rattle.table.specs.Table.{Table, Entry, size_of, fields_of, has_cycles, opcode_place, fields_place, cycles_at, entry_at, entries_at, entry_place, table_of}
 use Rattle.table.specs.Check.{Check, fine, fault, reading, read_table, table_check, first_check, field_check, fields_check, used_before, head_check, cycles_check, entry_check, entries_check}
 use Rattle.table.specs.Ready.{Ready}
-use Rattle.table.specs.Answer.{Shape, shape_of, said, Reads}
-use Rattle.table.specs.declared.Answer.TheVariants.{Accepted, Refused}
-use Rattle.table.specs.declared.Reading.{Reading}
-use Rattle.table.proofs.Laws.{fine_then, fault_then, then_l, then_r, need_true, head_fits, first_short, first_count, first_width, accepts_places, accepts}
+use Rattle.table.specs.Answer.{shape_of, Reads}
+use Rattle.table.proofs.Laws.{fine_then, fault_then, then_l, then_r, need_true, head_fits, first_short, first_count, first_width}
 
 -- ---- an entry without fault
 
@@ -161,32 +162,13 @@ module _ (ws places : List ℕ) (width count : ℕ) (r : Ready ws places width c
     pub ready_place : get_or places k 0 + 1 ≤ length ws
     ready_place = entry_here ws width _ ready_entry
 
-shape_fine : (v : Check) (t : Table) (s : Shape) → result s ≡ shape_of (reading v t) → v ≡ fine
-shape_fine fine t s e = refl
-shape_fine (fault n p) t s e = absurd (let z : ◌≡◌ {A = ℕ} 0 1 = cc in omega arith)
+-- ---- what refuses a table is a fault of its own; a call that passes faults on says the same
 
-shape_faulty : (v : Check) (t : Table) (n p : ℕ) → faulty n p ≡ shape_of (reading v t) → reading v t ≡ faulty n p
-shape_faulty fine t n p e = absurd (let z : ◌≡◌ {A = ℕ} 0 1 = cc in omega arith)
-shape_faulty (fault m q) t n p e = cc
+refused_in : (v : Check) (t : Table) (r : Refusal) → refused_as r ≡ shape_of (reading v t)
+    → {B : Type 0} (call : Outcome Table → Outcome B) → ((n p : ℕ) → call (faulty n p) ≡ faulty n p) → refused_as r ≡ call (reading v t)
+refused_in fine t r e call f = absurd (refused_no_result r _ e)
+refused_in (fault n p) t r e call f = fault_in_all r n p e ∙ sym (f n p)
 
-abbrev shape : ℕ → ℕ → Shape
-shape width count = record { width = width; entries = count }
-
-module _ (ws : List ℕ) (r : Reading) (reads : Reads ws r) where
-  pub reading_faulty : (n p : ℕ) → r.answer ≡ Refused n p → read_table ws ≡ faulty n p
-  reading_faulty n p e = shape_faulty (table_check ws) (table_of ws) n p (sym (ap said e) ∙ reads.answer)
-
-  pub reading_ready : (width count : ℕ) → r.answer ≡ Accepted width count → Ready ws r.places width count
-  reading_ready width count e =
-      let s : said (Accepted width count) ≡ shape_of (read_table ws) = sym (ap said e) ∙ reads.answer in
-      let t : table_check ws ≡ fine = shape_fine (table_check ws) (table_of ws) _ s in
-      let u : said (Accepted width count) ≡ said (Accepted (width_of (word ws 0)) (count_of (word ws 0))) = s ∙ sym (accepts ws t _ _ refl refl) in
-      let v : shape width count ≡ shape (width_of (word ws 0)) (count_of (word ws 0)) = cc in
-      let w = ap (λ (x : Shape). x.width) v in
-      let n = ap (λ (x : Shape). x.entries) v in
-      record {
-        good = t;
-        wide = w;
-        number = n;
-        each = λ k h. reads.places k ∙ sym (accepts_places ws t count n k) ∙ rw (lt-ltb k count h);
-      }
+pub read_refused : (ws : List ℕ) (r : Refusal) → Reads ws (Err r) → {B : Type 0} (call : Outcome Table → Outcome B)
+    → ((n p : ℕ) → call (faulty n p) ≡ faulty n p) → refused_as r ≡ call (read_table ws)
+read_refused ws r reads call f = refused_in (table_check ws) (table_of ws) r reads.answer call f

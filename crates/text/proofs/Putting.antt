@@ -4,9 +4,8 @@ use mathlib.Core.Bool.{Bool, true, false}
 use mathlib.Core.Path.{◌≡◌, refl}
 use mathlib.Core.List.{List}
 use native.Mathlib.Omega.{arith}
-use native.Mathlib.Numerals.{add-one}
-use lib.ListN.{length, get_or, set, length-append, length-take, length-drop}
-use lib.Seq.{paste, paste-suc, take-length}
+use lib.ListN.{length, length-append, length-take, length-drop}
+use lib.Seq.{paste, take-length}
 use lib.Dec.{leb}
 use borrow.Author.Tests.{le-leb, lt-leb, leb-true}
 use Rattle.text.specs.Buffer.{has_place, put_at, place_after, Puts}
@@ -15,12 +14,6 @@ use Rattle.text.specs.Buffer.{has_place, put_at, place_after, Puts}
 cases : {G : Type 0} (b : Bool) → (b ≡ true → G) → (b ≡ false → G) → G
 cases true f g = f refl
 cases false f g = g refl
-
--- a turn of the loop that copies
-pub copied_on : (d : List ℕ) (at : ℕ) (s out : List ℕ) (j : ℕ)
-    → out ≡ paste d at s j → at + j < length d → j < length s
-    → set out (at + j) (get_or s j 0) ≡ paste d at s (j + 1)
-copied_on d at s out j e h k = rw (e, add-one) (paste-suc d at s j 0 h k)
 
 module _ (before : List ℕ) (at : ℕ) (text : List ℕ) where
   -- a text that fits is copied

@@ -1,11 +1,13 @@
 -- Laws of numbers as text. Assumes nothing.
-use Prim.Native.Nat.{ℕ, zero, suc, ◌+◌, ◌-◌, ◌/◌, ◌%◌, ◌^◌, ◌≤◌, ◌<◌}
+use Prim.Native.Nat.{ℕ, zero, suc, ◌+◌, ◌-◌, ◌*◌, ◌/◌, ◌%◌, ◌^◌, ◌≤◌, ◌<◌}
 use mathlib.Core.Path.{◌≡◌, refl, sym, ap, ◌∙◌}
 use mathlib.Core.List.{List, [], ◌∷◌, ◌++◌, append-nil}
-use native.Mathlib.Nat.{pow-suc, div-one}
+use native.Mathlib.Nat.{pow-suc}
 use native.Mathlib.Omega.{arith}
-use lib.ListN.{length, take, drop, set, length-drop, drop_of_length-le}
+use lib.ListN.{length, take, drop, set, drop_of_length-le}
 use lib.Seq.{append_snoc, take_all}
+use Rattle.std.proofs.lemmas.List.{take_more_set}
+use Rattle.std.proofs.lemmas.Nat.{pow-add}
 use borrow.Author.Tests.{lt-ltb, le-ltb}
 use Rattle.text.specs.Digits.{digit_of, digits_of, decimal_text, hex_digits, hex_text}
 
@@ -14,9 +16,9 @@ pub digit_low : (d : ℕ) → d < 10 → 48 + d ≡ digit_of d
 unfolding digit_of
 digit_low d h = rw (lt-ltb d 10 h)
 
-pub digit_high : (d : ℕ) → 10 ≤ d → 87 + d ≡ digit_of d
+pub digit_high : (d : ℕ) → 10 ≤ d → 97 + (d - 10) ≡ digit_of d
 unfolding digit_of
-digit_high d h = rw (le-ltb d 10 h)
+digit_high d h = rw (le-ltb d 10 h) (omega arith)
 
 -- zero has no digits
 no_digits : (most : ℕ) → digits_of most 0 ≡ []
@@ -90,20 +92,29 @@ more_room rest zero h k = absurd (omega arith)
 more_room rest (suc zero) h k = absurd (omega arith)
 more_room rest (suc (suc m)) h k = omega arith
 
--- the part of ten bytes from the first digit on
-pub spelled_part : (n first : ℕ) (digits : List ℕ) → length digits ≡ 10 → drop first digits ≡ decimal_text n → take (10 - first) (drop first digits) ≡ decimal_text n
-spelled_part n first digits h e = take_all (10 - first) (drop first digits) (simp length-drop (omega arith)) ∙ e
+sixteen : (k : ℕ) → 2 ^ (4 * k) ≡ 16 ^ k
+sixteen zero = refl
+sixteen (suc k) =
+    let e : 4 * suc k ≡ 4 * k + 4 = omega arith in
+    rw (e, pow-add 2 (4 * k) 4, sixteen k, pow-suc 16 k) (omega arith)
 
--- the eight digits of a word
-pub eight : {a b c d e f g h : ℕ} (w : ℕ)
-    → a ≡ digit_of (w / 2 ^ 28 % 16)
-    → b ≡ digit_of (w / 2 ^ 24 % 16)
-    → c ≡ digit_of (w / 2 ^ 20 % 16)
-    → d ≡ digit_of (w / 2 ^ 16 % 16)
-    → e ≡ digit_of (w / 2 ^ 12 % 16)
-    → f ≡ digit_of (w / 2 ^ 8 % 16)
-    → g ≡ digit_of (w / 2 ^ 4 % 16)
-    → h ≡ digit_of (w % 16)
-    → a ∷ b ∷ c ∷ d ∷ e ∷ f ∷ g ∷ h ∷ [] ≡ hex_text w
-unfolding hex_digits hex_text
-eight w a b c d e f g h = rw (a, b, c, d, e, f, g, h, div-one)
+-- a turn of the loop that writes the eight digits of a word
+pub eight_on : (w i d : ℕ) (digits : List ℕ) → length digits ≡ 8 → i < 8 → d ≡ digit_of (w / 2 ^ (28 - 4 * i) % 16)
+    → take i digits ++ hex_digits (8 - i) w ≡ hex_text w
+    → take (i + 1) (set digits i d) ++ hex_digits (8 - (i + 1)) w ≡ hex_text w
+unfolding hex_digits
+eight_on w i d digits size h here so_far =
+    let left : 8 - i ≡ suc (7 - i) = omega arith in
+    let rest : 8 - (i + 1) ≡ 7 - i = omega arith in
+    let low : 28 - 4 * i ≡ 4 * (7 - i) = omega arith in
+    let k : i < length digits = omega arith in
+    rw (take_more_set digits i d k, rest, append_snoc (take i digits) d (hex_digits (7 - i) w), here, low, sixteen (7 - i))
+    (rw left at so_far)
+
+-- and after the last turn they are the word's
+pub eight_all : (w i : ℕ) (digits : List ℕ) → length digits ≡ 8 → 8 ≤ i → take i digits ++ hex_digits (8 - i) w ≡ hex_text w → digits ≡ hex_text w
+unfolding hex_digits
+eight_all w i digits size h so_far =
+    let none : 8 - i ≡ 0 = omega arith in
+    let all : take i digits ≡ digits = take_all i digits (omega arith) in
+    sym (append-nil _) ∙ (rw (none, all) at so_far)

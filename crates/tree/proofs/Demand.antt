@@ -38,8 +38,7 @@ use Rattle.tree.specs.Tree.{Tree, tree, size, asked, named, conflict}
 use Rattle.tree.specs.Written.{written}
 use Rattle.tree.specs.Reach.{lowest_unreached}
 use Rattle.tree.specs.Generate.{fits, judged, judged_in, generate_of, left_by, buffer_of}
-use Rattle.flat.specs.Nodes.{header_of}
-use Rattle.flat.specs.declared.Header.TheVariants.{Good}
+use Rattle.flat.specs.Nodes.{good, header_of}
 use Rattle.flat.specs.Walk.{arrives, path, mask_of, walk_of}
 use Rattle.tree.proofs.Theorem.{tree_right, tree_short, tree_once, tree_conflict, tree_sound, conflict_found}
 use Rattle.tree.proofs.Sizes.{length_nodes}
@@ -51,7 +50,7 @@ pub record Right (es : List Entry) (width n : ℕ) (words : List ℕ) (w : ℕ) 
   -- the word is not ambiguous: it selects an entry or nothing
   pub clear : select es w ≡ ambiguous → ⊥
   -- the words are those of a tree of the width with n nodes, so that the path is the walk's own
-  pub header : header_of (word words 0) (length words) ≡ Good width n
+  pub header : header_of (word words 0) (length words) ≡ good width n
   -- the bits that w's path tests, in order, and what the path names
   pub tests : List ℕ
   pub walks : path n words width n w 1 ≡ arrives (named (select es w)) tests
@@ -80,7 +79,7 @@ named_nothing ambiguous h q = absurd (h refl)
 
 -- a path of these tests, and the walk that answers so
 pub right_walks : (es : List Entry) (width n : ℕ) (words : List ℕ) (w : ℕ) (tests : List ℕ) → (select es w ≡ ambiguous → ⊥)
-    → header_of (word words 0) (length words) ≡ Good width n
+    → header_of (word words 0) (length words) ≡ good width n
     → path n words width n w 1 ≡ arrives (named (select es w)) tests
     → walk_of words w ≡ result (record { entry = named (select es w); count = length tests; mask = mask_of tests })
     → distinct tests ≡ true → length tests ≤ width → Right es width n words w

@@ -7,3 +7,4 @@ pub mod Paths
 pub mod Demand
 pub mod Sizing
 pub mod Unreached
+pub mod Held

@@ -1,16 +1,20 @@
 -- The steps of a path, as the loops take them. Assumes nothing.
 --     goes_on     a turn: one more test, and the path from where it goes
---     ends_entry, ends_nothing, ends_damaged     the last turn
+--     ends, breaks_off     the last turn
 use Prim.Native.Nat.{ℕ, suc, ◌+◌, ◌-◌, ◌*◌, ◌%◌, ◌^◌, ◌<◌}
 use mathlib.Core.Path.{◌≡◌, refl, sym, ap, ap₂, ◌∙◌}
 use mathlib.Core.Bool.{cond}
 use mathlib.Core.List.{List, []}
-use mathlib.Core.Option.{Option, none, some}
+use mathlib.Core.Option.{Option}
 use native.Mathlib.Omega.{arith}
 use lib.Bits.{bit_or, or_zero_l, or_zero_r}
 use lib.ListN.{length}
 use Rattle.words.specs.Words.{word, bit}
-use Rattle.words.specs.Outcome.{Outcome, result, faulty, refused}
+use Rattle.std.specs.Prelude.{Some, None, Ok, Err}
+use Rattle.std.specs.Prelude as code
+use Rattle.words.specs.Outcome.{Outcome, result, faulty, refused, refused_as, maybe_of}
+use Rattle.words.specs.declared.Refusal.{Refusal}
+use Rattle.words.specs.declared.Refusal.TheVariants as refusal
 use Rattle.words.proofs.Bits.{or_assoc}
 use Rattle.words.proofs.Parts.{one_shl}
 use Rattle.flat.specs.Nodes.{node_of, said_node}
@@ -50,19 +54,19 @@ module _ (ws : List ℕ) (width n w at tests mask : ℕ) (before : tests < n) wh
   unfolding path
   first_node = let s : n - tests ≡ suc (n - (tests + 1)) = omega arith in ap (λ (k : ℕ). path k ws width n w at) s
 
-  on : (x : Node) (next b : ℕ) → went_of x w at ≡ went.On next b
+  on : (x : code.Option Node) (next b : ℕ) → went_of x w at ≡ Ok (went.On next b)
       → plus tests mask (ended (onward (said_node at x) w at rest)) ≡ plus (tests + 1) (bit_or mask (2 ^ b)) (ended (rest next))
   unfolding went_of
-  on node.Damaged next b e = let z : ◌≡◌ {A = ℕ} 0 1 = cc in absurd (omega arith)
-  on (node.Asks c k) next b e =
+  on None next b e = absurd (cc)
+  on (Some (node.Asks c k)) next b e =
       let q : cond (bit w c) k (at + 1) ≡ next = cc in
       let s : c ≡ b = cc in
       plus_after tests mask c (rest (cond (bit w c) k (at + 1))) ∙ ap₂ (λ (j d : ℕ). plus (tests + 1) (bit_or mask (2 ^ d)) (ended (rest j))) q s
-  on (node.Names i) next b e = let z : ◌≡◌ {A = ℕ} 0 1 = cc in absurd (omega arith)
-  on node.Nothing next b e = let z : ◌≡◌ {A = ℕ} 0 1 = cc in absurd (omega arith)
+  on (Some (node.Names i)) next b e = absurd (cc)
+  on (Some node.Nothing) next b e = absurd (cc)
 
   -- the mask gets `1 << b`
-  pub goes_on : (next b : ℕ) → b < 32 → went_of (node_of width n at (word ws at)) w at ≡ went.On next b
+  pub goes_on : (next b : ℕ) → b < 32 → went_of (node_of width n at (word ws at)) w at ≡ Ok (went.On next b)
       → plus tests mask (ended (path (n - tests) ws width n w at)) ≡ plus (tests + 1) (bit_or mask ((1 * 2 ^ b) % 2 ^ 32)) (ended (path (n - (tests + 1)) ws width n w next))
   goes_on next b h e =
       ap (λ (p : Ending). plus tests mask (ended p)) first_node
@@ -74,35 +78,25 @@ module _ (ws : List ℕ) (width n w at tests mask : ℕ) (before : tests < n) wh
   unfolding mask_of
   leaf e = let z : tests + 0 ≡ tests = omega arith in ap₂ (finished e) z (or_zero_r mask)
 
-  entry : (x : Node) (i : ℕ) → went_of x w at ≡ went.Entry i → plus tests mask (ended (onward (said_node at x) w at rest)) ≡ finished (some i) tests mask
+  end : (x : code.Option Node) (o : code.Option ℕ) → went_of x w at ≡ Ok (went.Ends o)
+      → plus tests mask (ended (onward (said_node at x) w at rest)) ≡ finished (maybe_of o) tests mask
   unfolding went_of
-  entry node.Damaged i e = let z : ◌≡◌ {A = ℕ} 0 1 = cc in absurd (omega arith)
-  entry (node.Asks b k) i e = let z : ◌≡◌ {A = ℕ} 0 1 = cc in absurd (omega arith)
-  entry (node.Names j) i e = let q : j ≡ i = cc in leaf (some j) ∙ ap (λ (k : ℕ). finished (some k) tests mask) q
-  entry node.Nothing i e = let z : ◌≡◌ {A = ℕ} 0 1 = cc in absurd (omega arith)
+  end None o e = absurd (cc)
+  end (Some (node.Asks b k)) o e = absurd (cc)
+  end (Some (node.Names j)) o e = let q : Some j ≡ o = cc in leaf (maybe_of (Some j)) ∙ ap (λ (i : code.Option ℕ). finished (maybe_of i) tests mask) q
+  end (Some node.Nothing) o e = let q : None ≡ o = cc in leaf (maybe_of None) ∙ ap (λ (i : code.Option ℕ). finished (maybe_of i) tests mask) q
 
-  pub ends_entry : (i : ℕ) → went_of (node_of width n at (word ws at)) w at ≡ went.Entry i
-      → plus tests mask (ended (path (n - tests) ws width n w at)) ≡ finished (some i) tests mask
-  ends_entry i e = ap (λ (p : Ending). plus tests mask (ended p)) first_node ∙ entry (node_of width n at (word ws at)) i e
+  pub ends : (o : code.Option ℕ) → went_of (node_of width n at (word ws at)) w at ≡ Ok (went.Ends o)
+      → plus tests mask (ended (path (n - tests) ws width n w at)) ≡ finished (maybe_of o) tests mask
+  ends o e = ap (λ (p : Ending). plus tests mask (ended p)) first_node ∙ end (node_of width n at (word ws at)) o e
 
-  nothing : (x : Node) → went_of x w at ≡ went.Nothing → plus tests mask (ended (onward (said_node at x) w at rest)) ≡ finished none tests mask
+  damaged : (x : code.Option Node) (r : Refusal) → went_of x w at ≡ Err r → plus tests mask (ended (onward (said_node at x) w at rest)) ≡ refused_as r
   unfolding went_of
-  nothing node.Damaged e = let z : ◌≡◌ {A = ℕ} 0 1 = cc in absurd (omega arith)
-  nothing (node.Asks b k) e = let z : ◌≡◌ {A = ℕ} 0 1 = cc in absurd (omega arith)
-  nothing (node.Names j) e = let z : ◌≡◌ {A = ℕ} 0 1 = cc in absurd (omega arith)
-  nothing node.Nothing e = leaf none
+  damaged None r e = let q : refusal.Damaged at ≡ r = cc in ap (λ (k : Refusal). refused_as {A = Walk} k) q
+  damaged (Some (node.Asks b k)) r e = absurd (cc)
+  damaged (Some (node.Names j)) r e = absurd (cc)
+  damaged (Some node.Nothing) r e = absurd (cc)
 
-  pub ends_nothing : went_of (node_of width n at (word ws at)) w at ≡ went.Nothing
-      → plus tests mask (ended (path (n - tests) ws width n w at)) ≡ finished none tests mask
-  ends_nothing e = ap (λ (p : Ending). plus tests mask (ended p)) first_node ∙ nothing (node_of width n at (word ws at)) e
-
-  damaged : (x : Node) → went_of x w at ≡ went.Damaged → plus tests mask (ended (onward (said_node at x) w at rest)) ≡ refused 9 at 0
-  unfolding went_of
-  damaged node.Damaged e = refl
-  damaged (node.Asks b k) e = let z : ◌≡◌ {A = ℕ} 0 1 = cc in absurd (omega arith)
-  damaged (node.Names j) e = let z : ◌≡◌ {A = ℕ} 0 1 = cc in absurd (omega arith)
-  damaged node.Nothing e = let z : ◌≡◌ {A = ℕ} 0 1 = cc in absurd (omega arith)
-
-  pub ends_damaged : went_of (node_of width n at (word ws at)) w at ≡ went.Damaged
-      → plus tests mask (ended (path (n - tests) ws width n w at)) ≡ refused 9 at 0
-  ends_damaged e = ap (λ (p : Ending). plus tests mask (ended p)) first_node ∙ damaged (node_of width n at (word ws at)) e
+  pub breaks_off : (r : Refusal) → went_of (node_of width n at (word ws at)) w at ≡ Err r
+      → plus tests mask (ended (path (n - tests) ws width n w at)) ≡ refused_as r
+  breaks_off r e = ap (λ (p : Ending). plus tests mask (ended p)) first_node ∙ damaged (node_of width n at (word ws at)) r e

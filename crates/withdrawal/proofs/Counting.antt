@@ -1,6 +1,7 @@
 -- The count: what a lookup tells of a word, and what has been counted so far. Assumes nothing.
-use Prim.Native.Nat.{ℕ, suc, ◌+◌, ◌≤◌, ◌<◌, ◌^◌, min}
+use Prim.Native.Nat.{ℕ, suc, min, ◌+◌, ◌≤◌, ◌<◌, ◌^◌}
 use native.Mathlib.Numerals.{add-one}
+use native.Mathlib.Omega.{arith}
 use mathlib.Core.Path.{◌≡◌, refl, ap, ◌∙◌}
 use mathlib.Core.Bool.{true, false}
 use mathlib.Core.List.{List}
@@ -11,17 +12,24 @@ use borrow.Author.Count.{below_none, below_more}
 use borrow.Author.Tests.{lt-ltb, le-ltb, eq-eqb, ne_eqb}
 use Rattle.words.specs.Tests.{◌or◌, how_many}
 use Rattle.words.specs.Words.{word}
-use Rattle.words.specs.Outcome.{Outcome, result, faulty, refused}
+use Rattle.std.specs.Prelude.{Result, Err}
+use Rattle.std.specs.Prelude as code
+use Rattle.words.specs.Outcome.{Outcome, result, faulty, refused, refused_as}
+use Rattle.words.specs.declared.Refusal.{Refusal}
+use Rattle.words.specs.declared.Refusal.TheVariants as refusal
+use Rattle.words.proofs.Outcomes.{refused_no_result, said_one}
 use Rattle.words.proofs.Logic.{cases, clash, or_r, first_no, first_found, how_many_le}
 use Rattle.table.specs.Table.{Table, entries_at}
 use Rattle.table.specs.Check.{read_table}
+use Rattle.table.specs.Answer.{Reads}
 use Rattle.table.specs.Ready.{Ready}
+use Rattle.table.specs.declared.Entries.{Entries}
 use Rattle.table.proofs.Laws.{length_entries}
-use Rattle.table.proofs.Views.{ready_read}
+use Rattle.table.proofs.Views.{ready_read, read_refused}
 use Rattle.choice.specs.Rule.{names, nothing, ambiguous, selects, is_ambiguous}
 use Rattle.choice.proofs.Judging.{answers}
 use Rattle.selection.specs.Selection.{select}
-use Rattle.selection.specs.Lookup.{looked_in, said}
+use Rattle.selection.specs.Lookup.{looked_in, said_found}
 use Rattle.selection.specs.Places.{FindsAmong}
 use Rattle.selection.specs.declared.Found.{Found}
 use Rattle.selection.proofs.Finding.{among_all}
@@ -48,12 +56,29 @@ tells t w o e =
     (λ q. let p : o ≡ refused 6 0 w = rw (h, q) at e in rw p (rw (h, q), rw h)))
     (λ h. let p : o ≡ refused 7 0 0 = rw h at e in rw p (rw h, rw h))
 
--- the table as it is read
-abbrev pub table : List ℕ → ℕ → ℕ → Table
-table ws width n = record { width = width; entries = entries_at ws n 1 }
+-- a word that lookup refuses is unfit, and what refuses it is said of it
+pub refused_tells : (t : Table) (w : ℕ) (r : Refusal) → refused_as r ≡ looked_in t.width w (select t.entries w) → (unfit t w ≡ true) × (refused_as r ≡ refused_for t w)
+unfolding unfit ◌or◌ is_ambiguous
+refused_tells t w r e =
+    cases (ltb w (2 ^ t.width))
+    (λ h. answers (select t.entries w)
+    (λ i q. absurd (refused_no_result r (some i) (rw (h, q) at e)))
+    (λ q. absurd (refused_no_result r none (rw (h, q) at e)))
+    (λ q. let p = said_one {A = Option ℕ} (Err r) (Err (refusal.Ambiguous w)) (rw (h, q) at e) in
+    let z : r ≡ refusal.Ambiguous w = cc in rw z (rw (h, q), rw h)))
+    (λ h. let p = said_one {A = Option ℕ} (Err r) (Err refusal.TooWide) (rw h at e) in
+    let z : r ≡ refusal.TooWide = cc in rw z (rw h, rw h))
 
-pub told : (ws places : List ℕ) (width n w : ℕ) → Ready ws places width n → (r : Found) → FindsAmong ws places width (min n 256) w r → Tells (table ws width n) w (said r.answer)
-told ws places width n w ready r f = tells (table ws width n) w (said r.answer) (among_all ws places width n w ready r f)
+-- the table as it is read
+abbrev pub table : Entries → ℕ → Table
+table es width = record { width = width; entries = entries_at es.words.now es.count 1 }
+
+module _ (es : Entries) (width w : ℕ) (ready : Ready es.words.now es.places width es.count) where
+  pub told : (r : Result (code.Option Found) Refusal) → FindsAmong es.words.now es.places width (min es.count 256) w r → Tells (table es width) w (said_found r)
+  told r f = tells (table es width) w (said_found r) (among_all es.words.now es.places width es.count w ready r f)
+
+  pub told_refused : (r : Refusal) → FindsAmong es.words.now es.places width (min es.count 256) w (Err r) → (unfit (table es width) w ≡ true) × (refused_as r ≡ refused_for (table es width) w)
+  told_refused r f = refused_tells (table es width) w r (among_all es.words.now es.places width es.count w ready (Err r) f)
 
 -- a fit word is not ambiguous, so it changes exactly when it selects the entry
 pub fit_clear : (t : Table) (w : ℕ) → unfit t w ≡ false → select t.entries w ≡ ambiguous → ⊥
@@ -110,17 +135,23 @@ module _ (t : Table) (k : ℕ) (list : List ℕ) (i n : ℕ) (s : SoFar t k list
       all_counted e =
           rw (reads, lt-ltb k _ h, first_no (unfit_at t list) (length list) (λ j l. s.fit j (rw e l)), s.sum, e)
 
-      pub stopped : i < length list → (a b c : ℕ) → Tells t (word list i) (refused a b c) → refused a b c ≡ changed_of (read_table ws) k list
+      pub stopped : i < length list → (r : Refusal) → (unfit t (word list i) ≡ true) × (refused_as r ≡ refused_for t (word list i))
+          → refused_as r ≡ changed_of (read_table ws) k list
       unfolding changed_of counted_in unfit_at
-      stopped l a b c w =
+      stopped l r w =
           rw (reads, lt-ltb k _ h, first_found (unfit_at t list) (length list) i l w.0 s.fit) w.1
 
 -- ---- a table that is refused, and one without such an entry
 
-pub changed_faulty : (ws list : List ℕ) (k a b : ℕ) → read_table ws ≡ faulty a b → faulty a b ≡ changed_of (read_table ws) k list
+pub changed_refused : (ws list : List ℕ) (k : ℕ) (r : Refusal) → Reads ws (Err r) → refused_as r ≡ changed_of (read_table ws) k list
 unfolding changed_of
-changed_faulty ws list k a b e = rw e
+changed_refused ws list k r reads = read_refused ws r reads (λ (o : Outcome Table). changed_of o k list) (λ n p. refl)
 
-pub changed_none : (ws list places : List ℕ) (width n k : ℕ) → Ready ws places width n → n ≤ k → refused 11 0 0 ≡ changed_of (read_table ws) k list
+pub changed_none : (es : Entries) (width k : ℕ) (list : List ℕ) → Ready es.words.now es.places width es.count → es.count ≤ k
+    → refused 11 0 0 ≡ changed_of (read_table es.words.now) k list
 unfolding changed_of
-changed_none ws list places width n k r h = rw (ready_read ws places width n r, length_entries ws n 1, le-ltb k n h)
+changed_none es width k list r h = rw (ready_read es.words.now es.places width es.count r, length_entries es.words.now es.count 1, le-ltb k es.count h)
+
+-- there is such an entry
+pub entry : (es : Entries) (width k : ℕ) → k < es.count → k < length (table es width).entries
+entry es width k h = omega (arith, length_entries es.words.now es.count 1)

@@ -8,8 +8,6 @@ use Rattle.table.specs.Table.{Table}
 use Rattle.choice.specs.Rule.{is_ambiguous}
 use Rattle.selection.specs.Selection.{select}
 use Rattle.withdrawal.specs.Withdrawn.{changes}
-use Rattle.withdrawal.specs.declared.Changed.{Changed}
-use Rattle.withdrawal.specs.declared.Changed.TheVariants as code
 
 -- an "unfit word": it has a bit at or above the width, or it "was ambiguous before the withdrawal"; one that stands at an index of the list
 unfoldable pub unfit : Table → ℕ → Bool
@@ -36,11 +34,3 @@ unfoldable pub changed_of : Outcome Table → ℕ → List ℕ → Outcome ℕ
 changed_of (faulty n p) k list = faulty n p
 changed_of (refused n p w) k list = refused n p w
 changed_of (result t) k list = cond (ltb k (length t.entries)) (counted_in t k list) (refused 11 0 0)
-
--- the paper's number and values for each case of the answer
-abbrev pub said : Changed → Outcome ℕ
-said (code.Words n) = result n
-said code.NoEntry = refused 11 0 0
-said code.TooWide = refused 7 0 0
-said (code.Ambiguous w) = refused 6 0 w
-said (code.Refused number place) = faulty number place

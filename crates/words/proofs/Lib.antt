@@ -1,5 +1,6 @@
 pub mod Logic
 pub mod Outcomes
+pub mod Numbered
 pub mod Lists
 pub mod Bits
 pub mod Parts

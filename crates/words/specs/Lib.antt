@@ -1,4 +1,5 @@
 pub mod Tests
 pub mod Words
+pub mod Kinds
 pub mod Bytes
 pub mod Outcome

@@ -1,25 +1,26 @@
-use native.Mathlib.Omega.{arith}
 use borrow.Author.Tests.{lt-ltb, le-ltb, le-leb, lt-leb}
 use Rattle.words.specs.Tests.{◌and◌}
 use Rattle.flat.specs.Nodes.{header_rest}
 use Rattle.flat.proofs.header_rest.Goals as goal
 
-pub returns-then-width-lt1 : goal.returns-then-width-lt1
+pub returns-then-width-lt1-clause-value : goal.returns-then-width-lt1-clause-value
 unfolding header_rest ◌and◌
-returns-then-width-lt1 c = record { value = simp (lt-leb _ _ c.if-width-lt1.true); bounds = tt }
+returns-then-width-lt1-clause-value c = simp (lt-leb _ _ c.if-width-lt1.true)
 
-pub returns-then-width-gt32 : goal.returns-then-width-gt32
+pub returns-then-width-gt32-clause-value : goal.returns-then-width-gt32-clause-value
 unfolding header_rest ◌and◌
-returns-then-width-gt32 c = record { value = simp (le-leb _ _ c.if-width-lt1.false, lt-leb _ _ c.if-width-gt32.true); bounds = tt }
+returns-then-width-gt32-clause-value c = simp (le-leb _ _ c.if-width-lt1.false, lt-leb _ _ c.if-width-gt32.true)
 
-pub returns-then-nodes-lt1 : goal.returns-then-nodes-lt1
+pub returns-then-nodes-lt1-clause-value : goal.returns-then-nodes-lt1-clause-value
 unfolding header_rest ◌and◌
-returns-then-nodes-lt1 c = record { value = simp (le-leb _ _ c.if-width-lt1.false, le-leb _ _ c.if-width-gt32.false, lt-leb _ _ c.if-nodes-lt1.true); bounds = tt }
+returns-then-nodes-lt1-clause-value c = simp (le-leb _ _ c.if-width-lt1.false, le-leb _ _ c.if-width-gt32.false, lt-leb _ _ c.if-nodes-lt1.true)
 
-pub returns-then-words-nodes : goal.returns-then-words-nodes
+pub returns-then-words-nodes-clause-value : goal.returns-then-words-nodes-clause-value
 unfolding header_rest ◌and◌
-returns-then-words-nodes c = record { value = simp (le-leb _ _ c.if-width-lt1.false, le-leb _ _ c.if-width-gt32.false, le-leb _ _ c.if-nodes-lt1.false, le-ltb _ _ c.if-words-nodes.true); bounds = tt }
+returns-then-words-nodes-clause-value c =
+    simp (le-leb _ _ c.if-width-lt1.false, le-leb _ _ c.if-width-gt32.false, le-leb _ _ c.if-nodes-lt1.false, le-ltb _ _ c.if-words-nodes.true)
 
-pub returns : goal.returns
+pub returns-clause-value : goal.returns-clause-value
 unfolding header_rest ◌and◌
-returns c = record { value = simp (le-leb _ _ c.if-width-lt1.false, le-leb _ _ c.if-width-gt32.false, le-leb _ _ c.if-nodes-lt1.false, lt-ltb _ _ c.if-words-nodes.false); bounds = (omega arith, omega arith, omega arith, omega arith, omega arith) }
+returns-clause-value c =
+    simp (le-leb _ _ c.if-width-lt1.false, le-leb _ _ c.if-width-gt32.false, le-leb _ _ c.if-nodes-lt1.false, lt-ltb _ _ c.if-words-nodes.false)

@@ -1,18 +1,19 @@
 use mathlib.Core.Path.{sym, ap, ◌∙◌}
-use native.Mathlib.Omega.{arith}
+use Prim.Native.Nat.{ℕ}
 use borrow.Author.Tests.{eq-eqb, ne_eqb}
+use Rattle.std.specs.Prelude.{Some}
 use Rattle.words.specs.Words.{part}
-use Rattle.words.proofs.Parts.{part_mask, part_low, part_lt}
+use Rattle.words.proofs.Parts.{part_mask, part_low}
 use Rattle.flat.specs.Nodes.{names_node}
 use Rattle.flat.specs.declared.Node.TheVariants.{Names}
 use Rattle.flat.proofs.names_node.Goals as goal
 
-pub returns-then-spare-ne0 : goal.returns-then-spare-ne0
+pub returns-then-spare-ne0-clause-value : goal.returns-then-spare-ne0-clause-value
 unfolding names_node
-returns-then-spare-ne0 c = let x = c.args.word in record { value = rw (ne_eqb (part x 8 20) 0 (λ e. c.if-spare-ne0.true (part_mask x 8 20 ∙ e))); bounds = λ w n i. tt }
+returns-then-spare-ne0-clause-value c = let x = c.args.word in rw (ne_eqb (part x 8 20) 0 (λ e. c.if-spare-ne0.true (part_mask x 8 20 ∙ e)))
 
-pub returns : goal.returns
+pub returns-clause-value : goal.returns-clause-value
 unfolding names_node
-returns c =
+returns-clause-value c =
     let x = c.args.word in
-    record { value = rw (eq-eqb (part x 8 20) 0 (sym (part_mask x 8 20) ∙ c.if-spare-ne0.false)) (ap Names (part_low x 8)); bounds = λ w n i. omega (arith, part_low x 8, part_lt x 0 8) }
+    rw (eq-eqb (part x 8 20) 0 (sym (part_mask x 8 20) ∙ c.if-spare-ne0.false)) (ap (λ (e : ℕ). Some (Names e)) (part_low x 8))

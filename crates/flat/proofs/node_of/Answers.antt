@@ -7,28 +7,25 @@ use Rattle.words.proofs.Parts.{part_top}
 use Rattle.flat.specs.Nodes.{node_of}
 use Rattle.flat.proofs.node_of.Goals as goal
 
-pub returns-in-8 : goal.returns-in-8
+pub returns-in-8-clause-value : goal.returns-in-8-clause-value
 unfolding node_of
-returns-in-8 c =
+returns-in-8-clause-value c =
     let a = c.args in
-    let k : a.word / 2 ^ 28 ≡ part a.word 28 4 = part_top a.word (omega arith) in
-    record { value = rw (eq-eqb (part a.word 28 4) 8 (sym k ∙ c.in-8.is)) c.test_node.ensures.value; bounds = c.test_node.ensures.bounds }
+    rw (eq-eqb (part a.word 28 4) 8 (sym (part_top a.word (omega arith)) ∙ c.in-8.is)) c.test_node.ensures.value
 
-pub returns-in-9 : goal.returns-in-9
+pub returns-in-9-clause-value : goal.returns-in-9-clause-value
 unfolding node_of
-returns-in-9 c =
+returns-in-9-clause-value c =
     let a = c.args in
-    let k : a.word / 2 ^ 28 ≡ part a.word 28 4 = part_top a.word (omega arith) in
-    let q = sym k ∙ c.in-9.is in
-    record { value = rw (ne_eqb (part a.word 28 4) 8 (λ e. omega arith), eq-eqb (part a.word 28 4) 9 q) c.names_node.ensures.value; bounds = c.names_node.ensures.bounds _ _ _ }
+    let q = sym (part_top a.word (omega arith)) ∙ c.in-9.is in
+    rw (ne_eqb (part a.word 28 4) 8 (λ e. omega arith), eq-eqb (part a.word 28 4) 9 q) c.names_node.ensures.value
 
-pub returns-in-10 : goal.returns-in-10
+pub returns-in-10-clause-value : goal.returns-in-10-clause-value
 unfolding node_of
-returns-in-10 c =
+returns-in-10-clause-value c =
     let a = c.args in
-    let k : a.word / 2 ^ 28 ≡ part a.word 28 4 = part_top a.word (omega arith) in
-    let q = sym k ∙ c.in-10.is in
-    record { value = rw (ne_eqb (part a.word 28 4) 8 (λ e. omega arith), ne_eqb (part a.word 28 4) 9 (λ e. omega arith), eq-eqb (part a.word 28 4) 10 q) c.nothing_node.ensures.value; bounds = c.nothing_node.ensures.bounds _ _ _ }
+    let q = sym (part_top a.word (omega arith)) ∙ c.in-10.is in
+    rw (ne_eqb (part a.word 28 4) 8 (λ e. omega arith), ne_eqb (part a.word 28 4) 9 (λ e. omega arith), eq-eqb (part a.word 28 4) 10 q) c.nothing_node.ensures.value
 
 pub returns-in-0-to-7-clause-value : goal.returns-in-0-to-7-clause-value
 unfolding node_of

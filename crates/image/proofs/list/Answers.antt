@@ -1,21 +1,11 @@
-use mathlib.Core.Path.{refl}
-use Rattle.image.proofs.Admitting.{list_refused, list_faulty, list_filled}
+use Rattle.std.proofs.lemmas.Result.{err_from_is_err_and}
+use Rattle.image.proofs.Admitting.{list_refused, list_filled}
 use Rattle.image.proofs.list.Goals as goal
 
-pub fill-requires : goal.fill-requires
-fill-requires c = c.admit-admission.ensures.ready c.in-Ready.is
+pub returns-in_err-admitted : goal.returns-in_err-admitted
+returns-in_err-admitted c =
+    let p = err_from_is_err_and c.from_residual.result c.from_residual.ensures.1 in
+    rw (p.1, p.2) (list_refused _ _ _ _ c.in_err-admitted.ensures.answer c.args.out.now)
 
-pub returns-in-BadTable : goal.returns-in-BadTable
-returns-in-BadTable c = list_refused _ _ _ _ c.admit-admission.ensures _ c.in-BadTable.is _ _ _ refl c.args.out.now _ refl
-
-pub returns-in-BadImage : goal.returns-in-BadImage
-returns-in-BadImage c = list_refused _ _ _ _ c.admit-admission.ensures _ c.in-BadImage.is _ _ _ refl c.args.out.now _ refl
-
-pub returns-in-BadTree : goal.returns-in-BadTree
-returns-in-BadTree c = list_refused _ _ _ _ c.admit-admission.ensures _ c.in-BadTree.is _ _ _ refl c.args.out.now _ refl
-
-pub returns-in-Refused : goal.returns-in-Refused
-returns-in-Refused c = list_faulty _ _ _ _ c.admit-admission.ensures _ c.in-Refused.is _ _ refl c.args.out.now
-
-pub returns-in-Ready : goal.returns-in-Ready
-returns-in-Ready c = list_filled _ _ _ _ c.admit-admission.ensures _ c.in-Ready.is refl c.args.out.now _ _ c.fill.ensures
+pub returns : goal.returns
+returns c = let a = c.in_ok-admitted.ensures in list_filled _ _ _ _ a.answer _ _ _ (rw a.taken.image at c.fill.ensures)

@@ -1,22 +1,12 @@
-use Rattle.image.specs.declared.Stepped.TheVariants as stepped
-use mathlib.Core.Path.{refl}
-use Rattle.image.proofs.Admitting.{step_refused, step_faulty, step_made}
+use mathlib.Core.Path.{◌∙◌}
+use Rattle.std.proofs.lemmas.Result.{err_from_is_err_and}
+use Rattle.image.proofs.Admitting.{step_refused, step_made}
 use Rattle.image.proofs.step_at.Goals as goal
 
-pub step_ready-requires : goal.step_ready-requires
-step_ready-requires c = c.admit-admission.ensures.ready c.in-Ready.is
+pub returns-in_err-admitted : goal.returns-in_err-admitted
+returns-in_err-admitted c =
+    let p = err_from_is_err_and c.from_residual.result c.from_residual.ensures.1 in
+    rw (p.1, p.2) (step_refused _ _ _ _ c.in_err-admitted.ensures.answer _)
 
-pub returns-in-BadTable : goal.returns-in-BadTable
-returns-in-BadTable c = step_refused _ _ _ _ c.admit-admission.ensures _ c.in-BadTable.is _ _ _ refl _ stepped.BadTable refl
-
-pub returns-in-BadImage : goal.returns-in-BadImage
-returns-in-BadImage c = step_refused _ _ _ _ c.admit-admission.ensures _ c.in-BadImage.is _ _ _ refl _ stepped.BadImage refl
-
-pub returns-in-BadTree : goal.returns-in-BadTree
-returns-in-BadTree c = step_refused _ _ _ _ c.admit-admission.ensures _ c.in-BadTree.is _ _ _ refl _ stepped.BadTree refl
-
-pub returns-in-Refused : goal.returns-in-Refused
-returns-in-Refused c = step_faulty _ _ _ _ c.admit-admission.ensures _ c.in-Refused.is _ _ refl _
-
-pub returns-in-Ready : goal.returns-in-Ready
-returns-in-Ready c = step_made _ _ _ _ c.admit-admission.ensures _ c.in-Ready.is refl _ c.step_ready.result c.step_ready.ensures
+pub returns : goal.returns
+returns c = let a = c.in_ok-admitted.ensures in rw (a.taken.tree, a.taken.image) at c.step.ensures ∙ step_made _ _ _ _ a.answer _

@@ -1,7 +1,5 @@
-use Rattle.std.proofs.Common.{sym, subst}
-use Rattle.kilnumber.specs.Packed.{Narrow}
-use Rattle.kilnumber.proofs.Narrowing.{narrow}
+use Rattle.kilnumber.proofs.Narrowing.{size_narrow}
 use Rattle.kilnumber.proofs.kilnumber_signed.Goals as goal
 
-pub pack_signed-requires : goal.pack_signed-requires
-pack_signed-requires c = subst Narrow (sym c.signed-answer.ensures) (narrow _ _)
+pub pack_whole-requires : goal.pack_whole-requires
+pack_whole-requires c = size_narrow _ _ _ c.in-Ok.ensures _ _ c.from.ensures

@@ -1,22 +1,16 @@
-use mathlib.Core.Path.{sym, ◌∙◌}
-use Rattle.table.proofs.Views.{reading_ready, reading_faulty}
+use mathlib.Core.Path.{sym, ap, ◌∙◌}
+use mathlib.Core.List.{List}
+use Prim.Native.Nat.{ℕ}
+use Rattle.std.proofs.lemmas.Result.{err_from_is_err_and}
+use Rattle.table.specs.Check.{read_table}
+use Rattle.tree.specs.Generate.{measure_of}
 use Rattle.maker.proofs.Generating.{measure_faulty, measure_read}
 use Rattle.maker.proofs.measure.Goals as goal
 
-pub survey-requires : goal.survey-requires
-survey-requires c =
-    let a = c in
-    let r = a in
-    reading_ready _ _ r.read-reading.ensures _ _ a.in-Accepted.is
+pub returns-in_err-table : goal.returns-in_err-table
+returns-in_err-table c =
+    let p = err_from_is_err_and c.from_residual.result c.from_residual.ensures.1 in rw (p.1, p.2) (measure_faulty _ _ c.in_err-table.ensures)
 
-pub returns-in-Refused : goal.returns-in-Refused
-returns-in-Refused c =
-    let a = c in
-    let r = a in
-    measure_faulty _ _ _ (reading_faulty _ _ r.read-reading.ensures _ _ a.in-Refused.is)
-
-pub returns-in-Accepted : goal.returns-in-Accepted
-returns-in-Accepted c =
-    let a = c in
-    let r = a in
-    c.survey.ensures ∙ sym (measure_read _ _ _ _ (reading_ready _ _ r.read-reading.ensures _ _ a.in-Accepted.is))
+pub returns : goal.returns
+returns c =
+    c.survey.ensures ∙ sym (measure_read _ _ _ _ c.in_ok-table.table.ready) ∙ ap (λ (ws : List ℕ). measure_of (read_table ws)) c.in_ok-table.ensures.words

@@ -1,22 +1,26 @@
+use Rattle.std.proofs.lemmas.Result.{err_from_is_err_and}
 use Rattle.numbers.proofs.Judging.{sound}
-use Rattle.numbers.proofs.Answering.{writes_fault, writes_out, writes_in}
-use mathlib.Core.Path.{sym, ◌∙◌}
-use borrow.Author.Tests.{ltb-true}
+use Rattle.numbers.proofs.Answering.{text_refused, text_out, writes_refused, writes_in}
+use Rattle.numbers.proofs.Writing.{too_short, written}
 use Rattle.numbers.proofs.put_text.Goals as goal
 
-pub returns-then-not-fits : goal.returns-then-not-fits
-returns-then-not-fits c = writes_out (sound _ _ _ _ (sym c.in-Values.is ∙ c.judge.ensures)) _ _ (sym c.fits.ensures ∙ c.if-not-fits.true)
+pub returns-in_err-form : goal.returns-in_err-form
+returns-in_err-form c =
+    let p = err_from_is_err_and c.from_residual.result c.from_residual.ensures.1 in
+    rw (p.1, p.2) (writes_refused _ _ _ (text_refused _ _ c.in_err-form.ensures _))
 
-pub side_in-side-requires : goal.side_in-side-requires
-side_in-side-requires c =
-    let g = sound _ _ _ _ (sym c.in-Values.is ∙ c.judge.ensures) in
-    (g.some, g.most, ltb-true _ _ (sym c.fits.ensures ∙ c.if-not-fits.false))
+pub returns-in_err-side : goal.returns-in_err-side
+returns-in_err-side c =
+    let r = c.from_residual-in_err-side in
+    let p = err_from_is_err_and r.result r.ensures.1 in
+    rw (p.1, p.2) (writes_refused _ _ _ (text_out (sound _ _ c.in_ok-form.ensures) _ _ c.in_err-side.ensures.said))
 
-pub put_number-requires : goal.put_number-requires
-put_number-requires c = (c.side_in-side.ensures.1, (sound _ _ _ _ (sym c.in-Values.is ∙ c.judge.ensures)).few)
+pub returns-then-out-end : goal.returns-then-out-end
+returns-then-out-end c =
+    let m = c.make_line-end in
+    writes_in (sound _ _ c.in_ok-form.ensures) _ _ _ _ _ c.in_ok-side.ensures.said (too_short _ _ _ m.ensures.text m.array_long m.ensures.short _ c.if-out-end.true)
 
-pub returns-in-Fault : goal.returns-in-Fault
-returns-in-Fault c = writes_fault _ _ _ _ (sym c.in-Fault.is ∙ c.judge.ensures)
-
-pub returns-else-not-fits : goal.returns-else-not-fits
-returns-else-not-fits c = writes_in (sound _ _ _ _ (sym c.in-Values.is ∙ c.judge.ensures)) _ _ _ _ _ (sym c.fits.ensures ∙ c.if-not-fits.false) c.side_in-side.ensures.0 c.put_number.ensures
+pub returns : goal.returns
+returns c =
+    let m = c.make_line-end in
+    writes_in (sound _ _ c.in_ok-form.ensures) _ _ _ _ _ c.in_ok-side.ensures.said (written _ _ _ m.ensures.text m.array_long m.ensures.short _ c.if-out-end.false c.put_bytes.ensures)

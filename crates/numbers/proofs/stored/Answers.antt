@@ -1,14 +1,15 @@
-use Rattle.numbers.proofs.Judging.{sound}
-use Rattle.numbers.proofs.Answering.{stored_fault, stored_by}
+use Rattle.std.proofs.lemmas.Result.{err_from_is_err_and}
 use mir.Facts.{to_z-of_z}
-use mathlib.Core.Path.{sym, ◌∙◌}
+use mathlib.Core.Path.{sym, ap, ◌∙◌}
+use Rattle.numbers.specs.Calls.{stored_of}
+use Rattle.numbers.proofs.Judging.{sound}
+use Rattle.numbers.proofs.Answering.{stored_refused, stored_is}
 use Rattle.numbers.proofs.stored.Goals as goal
 
-pub value_on-requires : goal.value_on-requires
-value_on-requires c = let g = sound _ _ _ _ (sym c.in-Values.is ∙ c.judge.ensures) in (g.some, g.most)
+pub returns-in_err-form : goal.returns-in_err-form
+returns-in_err-form c = let p = err_from_is_err_and c.from_residual.result c.from_residual.ensures.1 in rw (p.1, p.2) (stored_refused _ _ c.in_err-form.ensures _)
 
-pub returns-in-Fault : goal.returns-in-Fault
-returns-in-Fault c = stored_fault _ _ _ (sym c.in-Fault.is ∙ c.judge.ensures)
-
-pub returns-in-Values : goal.returns-in-Values
-returns-in-Values c = stored_by (sound _ _ _ _ (sym c.in-Values.is ∙ c.judge.ensures)) _ _ _ (c.side_of-side.ensures ∙ to_z-of_z c.ranges.number) c.value_on.ensures
+pub returns : goal.returns
+returns c =
+    let e = c.from.ensures ∙ to_z-of_z c.ranges.number in
+    c.value_on.ensures ∙ sym (stored_is (sound _ _ c.in_ok-form.ensures) _) ∙ ap (stored_of c.args.field) e

@@ -1,22 +1,15 @@
-use Rattle.operands.proofs.Confirming.{confirmed_yes, confirmed_other, confirmed_nothing, confirmed_refused, confirmed_faulty}
-use Rattle.selection.specs.Lookup.{said}
-use mathlib.Core.Path.{sym, ap, ◌∙◌}
+use Rattle.std.proofs.Common.{rules, ◌≡◌, Ok, None}
+use Rattle.operands.proofs.Confirming.{confirmed_yes, confirmed_other, confirmed_nothing, confirmed_refused}
 use Rattle.operands.proofs.confirm.Goals as goal
 
-pub returns-then-e-entry : goal.returns-then-e-entry
-returns-then-e-entry c = confirmed_yes _ _ _ _ (ap said (sym c.in-Entry.is) ∙ c.lookup.ensures) c.if-e-entry.true
+pub returns-in-Ok-Some : goal.returns-in-Ok-Some
+returns-in-Ok-Some c = confirmed_yes c.args.table.now _ _ _ c.find_among.ensures _ (rw c.in-Ok-Some.field-0-is at c.in-Ok-Some.is) c.if-found-entry.true
 
-pub returns-else-e-entry : goal.returns-else-e-entry
-returns-else-e-entry c = confirmed_other _ _ _ _ (ap said (sym c.in-Entry.is) ∙ c.lookup.ensures) c.if-e-entry.false
+pub returns-in_default : goal.returns-in_default
+returns-in_default c = confirmed_other c.args.table.now _ _ _ c.find_among.ensures _ (rw c.in-Ok-Some.field-0-is at c.in-Ok-Some.is) c.if-found-entry.false
 
-pub returns-in-Nothing : goal.returns-in-Nothing
-returns-in-Nothing c = confirmed_nothing _ _ _ (ap said (sym c.in-Nothing.is) ∙ c.lookup.ensures)
+pub returns-in_default-2 : goal.returns-in_default-2
+returns-in_default-2 c = let h : c.find_among.result ≡ Ok None = search rules in confirmed_nothing c.args.table.now _ _ _ c.find_among.ensures h
 
-pub returns-in-Ambiguous : goal.returns-in-Ambiguous
-returns-in-Ambiguous c = confirmed_refused _ _ _ _ _ _ (ap said (sym c.in-Ambiguous.is) ∙ c.lookup.ensures)
-
-pub returns-in-TooWide : goal.returns-in-TooWide
-returns-in-TooWide c = confirmed_refused _ _ _ _ _ _ (ap said (sym c.in-TooWide.is) ∙ c.lookup.ensures)
-
-pub returns-in-Refused : goal.returns-in-Refused
-returns-in-Refused c = confirmed_faulty _ _ _ _ _ (ap said (sym c.in-Refused.is) ∙ c.lookup.ensures)
+pub returns-in_default-3 : goal.returns-in_default-3
+returns-in_default-3 c = confirmed_refused c.args.table.now _ _ _ c.find_among.ensures _ c.in_default.is

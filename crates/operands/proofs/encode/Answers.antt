@@ -1,42 +1,52 @@
-use Rattle.operands.proofs.Confirming.{encode_faulty, encode_none, encode_count, encode_made, entry_in_word}
-use Rattle.operands.proofs.Answering.{Stands, stands}
-use Rattle.words.specs.Words.{word}
+use Rattle.std.proofs.lemmas.Result.{err_from_is_err_and}
+use Rattle.operands.proofs.Confirming.{encode_refused, encode_none, encode_count, encode_made, entry_in_word, made_refused, made_word}
+use Rattle.operands.proofs.Answering.{read_ready, read_low, read_stands}
 use Rattle.words.proofs.Parts.{part_of}
-use Rattle.table.specs.Table.{count_of}
-use Rattle.table.proofs.Views.{reading_ready, reading_faulty, ready_few}
-use lib.ListN.{get_or}
+use Rattle.table.proofs.Views.{ready_few}
 use mathlib.Core.Path.{sym, ◌∙◌}
 use native.Mathlib.Omega.{arith}
-use Prim.Native.Nat.{◌<◌}
 use Rattle.operands.proofs.encode.Goals as goal
 
-pub returns-then-count-entry : goal.returns-then-count-entry
-returns-then-count-entry c = let g = reading_ready _ _ c.read-reading.ensures _ _ c.in-Accepted.is in encode_none _ g.good _ _ (omega (arith, g.number, c.if-count-entry.true))
+pub returns-in_err-table : goal.returns-in_err-table
+returns-in_err-table c = let p = err_from_is_err_and c.from_residual.result c.from_residual.ensures.1 in rw (p.1, p.2) (encode_refused _ _ _ _ c.in_err-table.ensures)
 
-pub bounds-places-e : goal.bounds-places-e
-bounds-places-e c = omega (arith, ready_few _ _ _ _ (reading_ready _ _ c.read-reading.ensures _ _ c.in-Accepted.is), c.if-count-entry.false)
+pub returns-then-table-entry : goal.returns-then-table-entry
+returns-then-table-entry c = let g = read_ready _ _ c.in_ok-table.ensures in encode_none _ g.good _ _ (omega (arith, g.number, c.if-table-entry.true))
+
+pub bounds-table-entry : goal.bounds-table-entry
+bounds-table-entry c = omega (arith, ready_few _ _ _ _ c.in_ok-table.table.ready, c.if-table-entry.false)
 
 pub returns-then-values-n : goal.returns-then-values-n
 returns-then-values-n c =
-    let g = reading_ready _ _ c.read-reading.ensures _ _ c.in-Accepted.is in
-    let low : c.args.entry < count_of (word c.args.ws.now 0) = omega (arith, g.number, c.if-count-entry.false) in
-    let here : Stands c.args.ws.now c.args.entry (get_or c.read-reading.result.places c.args.entry 0) = stands _ _ _ g.good low (g.each _ (omega (arith, c.if-count-entry.false))) in
-    encode_count _ g.good _ _ low _ here (λ e. c.if-values-n.true (e ∙ sym (part_of _ _ _ 4 4 c.part-n.ensures c.word_at.ensures)))
+    let reads = c.in_ok-table.ensures in
+    let h = c.if-table-entry.false in
+    encode_count _ (read_ready _ _ reads).good _ _ (read_low _ _ reads _ h) _ (read_stands _ _ reads _ h)
+    (λ e. c.if-values-n.true (e ∙ sym (part_of _ _ _ 4 4 c.part-n.ensures c.word_at.ensures)))
 
-pub make-requires : goal.make-requires
-make-requires c =
-    let g = reading_ready _ _ c.read-reading.ensures _ _ c.in-Accepted.is in
-    let low : c.args.entry < count_of (word c.args.ws.now 0) = omega (arith, g.number, c.if-count-entry.false) in
-    let here : Stands c.args.ws.now c.args.entry (get_or c.read-reading.result.places c.args.entry 0) = stands _ _ _ g.good low (g.each _ (omega (arith, c.if-count-entry.false))) in
-    let n = part_of _ _ _ 4 4 c.part-n.ensures c.word_at.ensures in
-    (omega (arith, here.few, n, c.if-values-n.false), entry_in_word _ _ _ _ g.good here (c.if-values-n.false ∙ n))
+pub put_in-requires : goal.put_in-requires
+put_in-requires c =
+    let reads = c.in_ok-table.ensures in
+    let s = read_stands _ _ reads _ c.if-table-entry.false in
+    let n = part_of _ _ _ 4 4 c.part-n.ensures c.word_at.ensures in (
+      omega (arith, c.fields_at.ensures.1),
+      omega (arith, s.few, n, c.if-values-n.false),
+      rw c.fields_at.ensures.0 (entry_in_word _ _ _ _ (read_ready _ _ reads).good s (c.if-values-n.false ∙ n)),
+    )
 
-pub returns-in-Refused : goal.returns-in-Refused
-returns-in-Refused c = encode_faulty _ _ _ _ _ (reading_faulty _ _ c.read-reading.ensures _ _ c.in-Refused.is)
+pub returns-in_err-w : goal.returns-in_err-w
+returns-in_err-w c =
+    let reads = c.in_ok-table.ensures in
+    let h = c.if-table-entry.false in
+    let p = err_from_is_err_and c.from_residual-in_err-w.result c.from_residual-in_err-w.ensures.1 in
+    rw (p.1, p.2)
+    (encode_made _ (read_ready _ _ reads).good _ _ (read_low _ _ reads _ h) _ (read_stands _ _ reads _ h) _
+    (c.if-values-n.false ∙ part_of _ _ _ 4 4 c.part-n.ensures c.word_at.ensures)
+    (made_refused _ _ _ _ _ _ c.word_at-opcode.ensures _ (rw c.fields_at.ensures.0 at c.in_err-w.ensures)))
 
-pub returns-else-values-n : goal.returns-else-values-n
-returns-else-values-n c =
-    let g = reading_ready _ _ c.read-reading.ensures _ _ c.in-Accepted.is in
-    let low : c.args.entry < count_of (word c.args.ws.now 0) = omega (arith, g.number, c.if-count-entry.false) in
-    let here : Stands c.args.ws.now c.args.entry (get_or c.read-reading.result.places c.args.entry 0) = stands _ _ _ g.good low (g.each _ (omega (arith, c.if-count-entry.false))) in
-    encode_made _ g.good _ _ low _ here _ (c.if-values-n.false ∙ part_of _ _ _ 4 4 c.part-n.ensures c.word_at.ensures) c.make.ensures
+pub returns : goal.returns
+returns c =
+    let reads = c.in_ok-table.ensures in
+    let h = c.if-table-entry.false in
+    encode_made _ (read_ready _ _ reads).good _ _ (read_low _ _ reads _ h) _ (read_stands _ _ reads _ h) _
+    (c.if-values-n.false ∙ part_of _ _ _ 4 4 c.part-n.ensures c.word_at.ensures)
+    (made_word _ _ _ _ _ _ c.word_at-opcode.ensures _ _ (rw c.fields_at.ensures.0 at c.in_ok-w.ensures) (rw reads.words at c.confirm.ensures))

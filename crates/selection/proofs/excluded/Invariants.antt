@@ -1,4 +1,5 @@
-use Prim.Native.Nat.{◌+◌, ◌*◌, ◌≤◌}
+use Prim.Native.Nat.{◌+◌, ◌-◌, ◌*◌, ◌≤◌}
+use mathlib.Core.Bool.{false}
 use mathlib.Core.Path.{◌≡◌}
 use Rattle.choice.specs.Rule.{matches}
 use Rattle.selection.specs.Selection.{satisfied}
@@ -6,14 +7,16 @@ use Rattle.table.specs.Table.{unmatching_at, conditions_at}
 use Rattle.words.specs.Tests.{any_of}
 use Rattle.selection.proofs.excluded.Given as goal
 
-abbrev pub invariant-loop-unmatchings : goal.invariant-loop-unmatchings
-invariant-loop-unmatchings l = (l.unmatching + 3 * l.unmatchings ≡ l.initial.unmatching + 3 * l.initial.unmatchings) × (any_of (matches l.word) (unmatching_at l.ws l.initial.unmatchings l.initial.unmatching) ≡ any_of (matches l.word) (unmatching_at l.ws l.unmatchings l.unmatching))
-
-abbrev pub decreases-loop-unmatchings : goal.decreases-loop-unmatchings
-decreases-loop-unmatchings l = l.unmatchings
-
+-- none is satisfied so far, so that those that are left decide
 abbrev pub invariant-search : goal.invariant-search
-invariant-search l = (l.condition + 48 * l.conditions ≤ l.p + 48 * l.n) × (any_of (satisfied l.word) (conditions_at l.ws l.n l.p) ≡ any_of (satisfied l.word) (conditions_at l.ws l.conditions l.condition))
+invariant-search l = record {
+  near : l.next ≤ l.p + 48 * l.counter;
+  none : l.found ≡ false;
+  rest : any_of (satisfied l.word) (conditions_at l.ws l.n l.p) ≡ any_of (satisfied l.word) (conditions_at l.ws (l.n - l.counter) l.next);
+}
 
-abbrev pub decreases-search : goal.decreases-search
-decreases-search l = l.conditions
+-- none matches so far
+abbrev pub invariant-loop-u : goal.invariant-loop-u
+invariant-loop-u l =
+    any_of (matches l.word) (unmatching_at l.ws l.unmatchings (l.condition + 3))
+    ≡ any_of (matches l.word) (unmatching_at l.ws (l.unmatchings - l.u) (l.condition + 3 + 3 * l.u))

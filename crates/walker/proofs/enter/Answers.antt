@@ -1,16 +1,27 @@
-use mathlib.Core.Path.{refl, sym, ◌∙◌}
-use native.Mathlib.Omega.{arith}
+use mathlib.Core.Path.{sym, ap, ◌∙◌}
+use Rattle.std.specs.Prelude.{None, Err}
 use Rattle.walker.specs.Walked.{entered_of}
+use Rattle.walker.proofs.Nodes.{was_some, was_none, returned}
+use Rattle.walker.proofs.Headers.{enters_odd, enters_by, enters_fit, enters_wide}
 use Rattle.walker.proofs.enter.Goals as goal
 
-pub returns-in-Bad : goal.returns-in-Bad
+pub returns-then-rest-ne0-clause-value : goal.returns-then-rest-ne0-clause-value
+returns-then-rest-ne0-clause-value g c = enters_odd _ _ _ _ c.rest.ensures c.if-rest-ne0.true
+
+pub returns-in_err-header-clause-value : goal.returns-in_err-header-clause-value
 unfolding entered_of
-returns-in-Bad c = record { value = rw (sym c.header_of.ensures.value ∙ c.in-Bad.is) refl; bounds = omega arith }
+returns-in_err-header-clause-value g c =
+    let (none, bad) = was_none c.header_of.result _ _ c.in_err-header.ensures.value in
+    returned c.from_residual.result c.in_err-header.field-0.0 c.from_residual.ensures.1
+    ∙ ap Err bad
+    ∙ enters_by _ _ (g.W.Words.words c.args.tree) c.args.word c.rest.ensures _ _ _ c.if-rest-ne0.false c.word.ensures c.count.ensures c.header_of.ensures.value None none
 
 pub returns-then-not-fits-clause-value : goal.returns-then-not-fits-clause-value
-unfolding entered_of
-returns-then-not-fits-clause-value c = rw (sym c.header_of.ensures.value ∙ c.in-Good.is, sym c.fits.ensures ∙ c.if-not-fits.true) refl
+returns-then-not-fits-clause-value g c =
+    enters_wide _ _ (g.W.Words.words c.args.tree) _ c.rest.ensures _ _ _ c.if-rest-ne0.false c.word.ensures c.count.ensures c.header_of.ensures.value
+    _ (was_some c.header_of.result _ _ c.in_ok-header.ensures.value) (sym c.fits.ensures ∙ c.if-not-fits.true)
 
-pub returns-else-not-fits-clause-value : goal.returns-else-not-fits-clause-value
-unfolding entered_of
-returns-else-not-fits-clause-value c = rw (sym c.header_of.ensures.value ∙ c.in-Good.is, sym c.fits.ensures ∙ c.if-not-fits.false) refl
+pub returns-clause-value : goal.returns-clause-value
+returns-clause-value g c =
+    enters_fit _ _ (g.W.Words.words c.args.tree) _ c.rest.ensures _ _ _ c.if-rest-ne0.false c.word.ensures c.count.ensures c.header_of.ensures.value
+    _ (was_some c.header_of.result _ _ c.in_ok-header.ensures.value) (sym c.fits.ensures ∙ c.if-not-fits.false)

@@ -1,59 +1,60 @@
 use Prim.Native.Nat.{ℕ, ◌-◌}
 use mathlib.Core.Path.{◌≡◌, sym, ap, ◌∙◌, subst}
 use native.Mathlib.Omega.{arith}
+use Rattle.std.specs.Prelude.{Result, Ok, Err}
+use Rattle.words.specs.declared.Refusal.{Refusal}
 use Rattle.flat.specs.Nodes.{node_of}
 use Rattle.flat.specs.Walk.{path, ended}
-use Rattle.walker.specs.Walked.{went_of, WentBounds}
+use Rattle.walker.specs.Walked.{said, Small, went_of, WentBounds}
 use Rattle.walker.specs.declared.Went.{Went}
-use Rattle.walker.proofs.Paths.{plus, plus_zero, goes_on, ends_entry, ends_nothing, ends_damaged}
+use Rattle.walker.specs.declared.Walked as found
+use Rattle.walker.proofs.Nodes.{returned, damaged_at}
+use Rattle.walker.proofs.Paths.{plus, plus_zero, goes_on, ends, breaks_off}
 use Rattle.walker.proofs.path.Goals as goal
 
-pub loop-next-init : goal.loop-next-init
-loop-next-init c =
+pub loop-went-init : goal.loop-went-init
+loop-went-init g c =
     let a = c.args in
-    let z : a.nodes ≡ a.nodes - 0 = omega arith in
-    (omega arith, omega arith, omega arith, sym (plus_zero (path a.nodes a.tree.now a.width a.nodes a.word 1)) ∙ ap (λ (k : ℕ). plus 0 0 (ended (path k a.tree.now a.width a.nodes a.word 1))) z)
+    let ws = g.W.Words.words a.tree in
+    let h = a.header in
+    let z : h.nodes ≡ h.nodes - 0 = omega arith in
+    record {
+      some = omega arith;
+      within = omega arith;
+      passed = omega arith;
+      left = sym (plus_zero (path h.nodes ws h.width h.nodes a.word 1)) ∙ ap (λ (k : ℕ). plus 0 0 (ended (path k ws h.width h.nodes a.word 1))) z;
+    }
 
-pub returns-in-Damaged : goal.returns-in-Damaged
-returns-in-Damaged c =
-    let q = c in
-    let l = c.loop-next in
+pub returns-in_err-went-clause-result_value : goal.returns-in_err-went-clause-result_value
+returns-in_err-went-clause-result_value g c =
+    let l = c.loop-went in
     let a = c.args in
-    let e = ap (λ (x : ℕ). went_of (node_of a.width a.nodes l.at x) a.word l.at) (sym c.word_at.ensures) ∙ sym q.pass-went.ensures.value in
-    record { result_value = sym (l.invariant.3 ∙ ends_damaged a.tree.now a.width a.nodes a.word l.at l.tests l.mask (omega arith) (e ∙ c.in-Damaged.is)); small = (omega arith, omega arith) }
+    let e = ap (λ (x : ℕ). went_of (node_of a.header.width a.header.nodes l.at x) a.word l.at) (sym c.word.ensures) ∙ sym c.in_err-went.ensures.value in
+    ap said (returned c.from_residual.result c.in_err-went.field-0.0 c.from_residual.ensures.1)
+    ∙ sym (l.invariant.left ∙ breaks_off (g.W.Words.words a.tree) a.header.width a.header.nodes a.word l.at l.tests l.mask (omega arith) _ e)
 
-pub overflow_shl-mask : goal.overflow_shl-mask
-overflow_shl-mask c =
-    let q = c in
-    let l = c.loop-next in
+pub returns-in_err-went-clause-small : goal.returns-in_err-went-clause-small
+returns-in_err-went-clause-small g c =
+    let l = c.loop-went in
+    let q = returned c.from_residual.result c.in_err-went.field-0.0 c.from_residual.ensures.1 ∙ ap Err (damaged_at _ _ l.at _ (sym c.in_err-went.ensures.value)) in
+    subst (λ (r : Result found.Walked Refusal). Small (said r)) (sym q) (omega arith, omega arith)
+
+pub loop-went-preserved : goal.loop-went-preserved
+loop-went-preserved g c =
+    let l = c.loop-went in
     let a = c.args in
-    (subst (λ (x : Went). WentBounds x a.nodes l.at) c.in-On.is q.pass-went.ensures.bounds).2
+    let is = c.in_ok-went.ensures.value ∙ ap (λ (x : ℕ). went_of (node_of a.header.width a.header.nodes l.at x) a.word l.at) c.word.ensures in
+    let b = subst (λ (x : Went). WentBounds (Ok x) a.header.nodes l.at) c.in-On.is c.in_ok-went.ensures.bounds in
+    record {
+      some = omega (arith, b.0);
+      within = b.1;
+      passed = omega (arith, b.0);
+      left = l.invariant.left ∙ goes_on (g.W.Words.words a.tree) a.header.width a.header.nodes a.word l.at l.tests l.mask (omega arith) _ _ b.2 (sym is ∙ ap Ok c.in-On.is);
+    }
 
-pub loop-next-smaller : goal.loop-next-smaller
-loop-next-smaller c = omega arith
-
-pub loop-next-preserved : goal.loop-next-preserved
-loop-next-preserved c =
-    let q = c in
-    let l = c.loop-next in
+pub returns-in-Ends-clause-result_value : goal.returns-in-Ends-clause-result_value
+returns-in-Ends-clause-result_value g c =
+    let l = c.loop-went in
     let a = c.args in
-    let e = ap (λ (x : ℕ). went_of (node_of a.width a.nodes l.at x) a.word l.at) (sym c.word_at.ensures) ∙ sym q.pass-went.ensures.value in
-    let b = subst (λ (x : Went). WentBounds x a.nodes l.at) c.in-On.is q.pass-went.ensures.bounds in
-    (omega (arith, b.0), b.1, omega (arith, b.0), l.invariant.3 ∙ goes_on a.tree.now a.width a.nodes a.word l.at l.tests l.mask (omega arith) _ _ b.2 (e ∙ c.in-On.is))
-
-pub returns-in-Entry : goal.returns-in-Entry
-returns-in-Entry c =
-    let q = c in
-    let l = c.loop-next in
-    let a = c.args in
-    let e = ap (λ (x : ℕ). went_of (node_of a.width a.nodes l.at x) a.word l.at) (sym c.word_at.ensures) ∙ sym q.pass-went.ensures.value in
-    let b = subst (λ (x : Went). WentBounds x a.nodes l.at) c.in-Entry.is q.pass-went.ensures.bounds in
-    record { result_value = sym (l.invariant.3 ∙ ends_entry a.tree.now a.width a.nodes a.word l.at l.tests l.mask (omega arith) _ (e ∙ c.in-Entry.is)); small = (b, omega arith) }
-
-pub returns-in-Nothing : goal.returns-in-Nothing
-returns-in-Nothing c =
-    let q = c in
-    let l = c.loop-next in
-    let a = c.args in
-    let e = ap (λ (x : ℕ). went_of (node_of a.width a.nodes l.at x) a.word l.at) (sym c.word_at.ensures) ∙ sym q.pass-went.ensures.value in
-    record { result_value = sym (l.invariant.3 ∙ ends_nothing a.tree.now a.width a.nodes a.word l.at l.tests l.mask (omega arith) (e ∙ c.in-Nothing.is)); small = omega arith }
+    let is = c.in_ok-went.ensures.value ∙ ap (λ (x : ℕ). went_of (node_of a.header.width a.header.nodes l.at x) a.word l.at) c.word.ensures in
+    sym (l.invariant.left ∙ ends (g.W.Words.words a.tree) a.header.width a.header.nodes a.word l.at l.tests l.mask (omega arith) _ (sym is ∙ ap Ok c.in-Ends.is))

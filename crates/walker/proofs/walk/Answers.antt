@@ -1,14 +1,20 @@
-use mathlib.Core.Path.{◌∙◌, subst}
-use native.Mathlib.Omega.{arith}
-use Rattle.walker.specs.Walked.{EnteredBounds}
-use Rattle.walker.proofs.Headers.{shut, walks}
+use mathlib.Core.Path.{sym, ap, ◌∙◌, subst}
+use Rattle.std.specs.Prelude.{Result}
+use Rattle.words.specs.declared.Refusal.{Refusal}
+use Rattle.walker.specs.Walked.{said, Small}
+use Rattle.walker.specs.declared.Walked as found
+use Rattle.walker.proofs.Nodes.{returned}
+use Rattle.walker.proofs.Headers.{shut, shut_small, walks}
 use Rattle.walker.proofs.walk.Goals as goal
 
-pub path-requires : goal.path-requires
-path-requires c = subst EnteredBounds c.in-Open.is c.enter.ensures.bounds
+pub returns-in_err-header-clause-result_value : goal.returns-in_err-header-clause-result_value
+returns-in_err-header-clause-result_value g c =
+    ap said (returned c.from_residual.result c.in_err-header.field-0.0 c.from_residual.ensures.1) ∙ shut _ (g.W.Words.words c.args.tree) _ _ c.in_err-header.ensures.value
 
-pub returns-in-Shut : goal.returns-in-Shut
-returns-in-Shut c = record { result_value = shut _ _ _ _ c.word_at.ensures c.enter.ensures.value _ c.in-Shut.is; small = (subst EnteredBounds c.in-Shut.is c.enter.ensures.bounds, omega arith) }
+pub returns-in_err-header-clause-small : goal.returns-in_err-header-clause-small
+returns-in_err-header-clause-small g c =
+    let q = returned c.from_residual.result c.in_err-header.field-0.0 c.from_residual.ensures.1 in
+    subst (λ (r : Result found.Walked Refusal). Small (said r)) (sym q) (shut_small _ (g.W.Words.words c.args.tree) _ _ c.in_err-header.ensures.value)
 
-pub returns-in-Open : goal.returns-in-Open
-returns-in-Open c = record { result_value = c.path.ensures.result_value ∙ walks _ _ _ _ c.word_at.ensures c.enter.ensures.value _ _ c.in-Open.is; small = c.path.ensures.small }
+pub returns-clause-result_value : goal.returns-clause-result_value
+returns-clause-result_value g c = c.path.ensures.result_value ∙ walks _ (g.W.Words.words c.args.tree) _ _ c.in_ok-header.ensures.value

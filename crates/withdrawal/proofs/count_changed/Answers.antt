@@ -1,12 +1,11 @@
-use Rattle.table.proofs.Views.{reading_ready, reading_faulty}
-use Rattle.withdrawal.proofs.Counting.{changed_faulty, changed_none}
+use Rattle.std.proofs.lemmas.Result.{err_from_is_err_and}
+use Rattle.withdrawal.proofs.Counting.{changed_refused, changed_none}
 use Rattle.withdrawal.proofs.count_changed.Goals as goal
 
-pub returns-then-count-entry : goal.returns-then-count-entry
-returns-then-count-entry c = changed_none _ _ _ _ _ _ (reading_ready _ _ c.read-reading.ensures _ _ c.in-Accepted.is) c.if-count-entry.true
+pub returns-in_err-table : goal.returns-in_err-table
+returns-in_err-table c = let p = err_from_is_err_and c.from_residual.result c.from_residual.ensures.1 in rw (p.1, p.2) (changed_refused _ _ _ _ c.in_err-table.ensures)
 
-pub count_selecting-requires : goal.count_selecting-requires
-count_selecting-requires c = (reading_ready _ _ c.read-reading.ensures _ _ c.in-Accepted.is, c.if-count-entry.false)
-
-pub returns-in-Refused : goal.returns-in-Refused
-returns-in-Refused c = changed_faulty _ _ _ _ _ (reading_faulty _ _ c.read-reading.ensures _ _ c.in-Refused.is)
+pub returns-then-table-entry : goal.returns-then-table-entry
+returns-then-table-entry c =
+    let t = c.in_ok-table.table in
+    rw c.in_ok-table.ensures.words at (changed_none t.entries t.width _ c.args.list.now t.ready c.if-table-entry.true)

@@ -1,11 +1,8 @@
-use Prim.Native.Nat.{◌+◌, ◌≤◌, ◌-◌}
+use Prim.Native.Nat.{◌+◌, ◌-◌, ◌≤◌}
 use mathlib.Core.Path.{◌≡◌}
 use Rattle.cell.specs.Decide.{weight_of}
 use Rattle.words.specs.Tests.{best}
 use Rattle.cell.proofs.testing.heaviest.Given as goal
 
 abbrev pub invariant-loop-i : goal.invariant-loop-i
-invariant-loop-i l = (1 ≤ l.i) × (l.i ≤ 1 + (l.width - 1)) × (l.bit ≡ best (weight_of l.masks l.count l.fixed) l.i) × (l.weight ≡ weight_of l.masks l.count l.fixed l.bit)
-
-abbrev pub decreases-loop-i : goal.decreases-loop-i
-decreases-loop-i l = l.width - l.i
+invariant-loop-i l = (l.i ≤ 1 + (l.width - 1)) × (l.bit ≡ best (weight_of l.masks l.fixed) l.i) × (l.weight ≡ weight_of l.masks l.fixed l.bit)

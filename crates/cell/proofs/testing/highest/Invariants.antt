@@ -4,7 +4,4 @@ use Rattle.cell.specs.Decide.{unfixed_in}
 use Rattle.cell.proofs.testing.highest.Given as goal
 
 abbrev pub invariant-loop-i : goal.invariant-loop-i
-invariant-loop-i l = (l.i ≤ l.width) × ((j : ℕ) → l.i ≤ j → j < l.width → unfixed_in l.mask l.fixed j ≡ 0)
-
-abbrev pub decreases-loop-i : goal.decreases-loop-i
-decreases-loop-i l = l.i
+invariant-loop-i l = (j : ℕ) → l.i ≤ j → j < l.width → unfixed_in l.mask l.fixed j ≡ 0

@@ -1,14 +1,19 @@
-use Rattle.image.proofs.Leading.{item_nothing, item_short, item_long, item_cut}
+use mathlib.Core.Path.{refl}
+use Rattle.image.specs.Items.{found_word, nothing_word, cut_word, item_of}
 use Rattle.image.proofs.lister.item_of.Goals as goal
 
 pub returns-in-Nothing : goal.returns-in-Nothing
-returns-in-Nothing c = item_nothing _ _ _ _ c.in-Nothing.is c.nothing_word.ensures
+unfolding item_of nothing_word
+returns-in-Nothing c = rw (c.in-Nothing.is, c.item_word.ensures, c.after.ensures) refl
 
 pub returns-in-Short : goal.returns-in-Short
-returns-in-Short c = item_short _ _ _ _ c.in-Short.e c.in-Short.is c.found_word.ensures
+unfolding item_of found_word
+returns-in-Short c = rw (c.in-Short.is, c.item_word-in-Short.ensures, c.after-in-Short.ensures) refl
 
 pub returns-in-Long : goal.returns-in-Long
-returns-in-Long c = item_long _ _ _ _ c.in-Long.e c.in-Long.is c.found_word-in-Long.ensures
+unfolding item_of found_word
+returns-in-Long c = rw (c.in-Long.is, c.item_word-in-Long.ensures, c.after-in-Long.ensures) refl
 
 pub returns-in-Cut : goal.returns-in-Cut
-returns-in-Cut c = item_cut _ _ _ _ c.in-Cut.is c.cut_word.ensures
+unfolding item_of cut_word
+returns-in-Cut c = rw (c.in-Cut.is, c.item_word-in-Cut.ensures) refl

@@ -1,12 +1,12 @@
-use Rattle.image.specs.Listing.{image_good}
+use Rattle.std.proofs.Common.{rules}
 use Rattle.words.specs.Tests.{◌and◌}
-use borrow.Author.Tests.{eq-eqb, ne_eqb}
+use Rattle.image.specs.Listing.{image_good}
 use Rattle.image.proofs.refusals.image_good.Goals as goal
 
-pub returns-then-image-ne0 : goal.returns-then-image-ne0
+pub returns-then-image-eq0 : goal.returns-then-image-eq0
 unfolding image_good ◌and◌
-returns-then-image-ne0 c = simp (ne_eqb _ _ c.if-image-ne0.true)
+returns-then-image-eq0 c = search rules
 
-pub returns : goal.returns
+pub returns-else-image-eq0 : goal.returns-else-image-eq0
 unfolding image_good ◌and◌
-returns c = simp (eq-eqb _ _ c.if-image-ne0.false)
+returns-else-image-eq0 c = search rules

@@ -1,7 +1,0 @@
--- As many zeros as were asked for.
-use Rattle.std.proofs.Common.{ℕ, sym}
-use Rattle.std.proofs.lemmas.List.{length-replicate}
-use Rattle.probe.proofs.zero_bytes.Goals as goal
-
-pub returns : goal.returns
-returns c = sym (length-replicate {0} {A = ℕ} 1048577 0)
