@@ -27,9 +27,10 @@ impl Cell {
     // The cell of every word.
     pub const START: Cell = Cell { fixed: 0, bits: 0 };
 
-    // The cell with the bit 0 as well.
+    // The cell that fixes the bit too, at 0; of a bit that no word has it is the same cell.
     pub fn zero_side(self, bit: u32) -> Cell
-        ensures { bit < 32 → cell_of result ≡ zero_side (cell_of self) bit }
+        ensures below { bit < 32 → cell_of result ≡ zero_side (cell_of self) bit }
+        ensures beyond { 31 < bit → result ≡ self }
     {
         Cell {
             fixed: self.fixed | words::run(bit, 1),
@@ -37,9 +38,10 @@ impl Cell {
         }
     }
 
-    // The cell with the bit 1 as well.
+    // The cell that fixes the bit too, at 1; of a bit that no word has it is the same cell.
     pub fn one_side(self, bit: u32) -> Cell
-        ensures { bit < 32 → cell_of result ≡ one_side (cell_of self) bit }
+        ensures below { bit < 32 → cell_of result ≡ one_side (cell_of self) bit }
+        ensures beyond { 31 < bit → result ≡ self }
     {
         let one = words::run(bit, 1);
         Cell {

@@ -1,7 +1,12 @@
-use mathlib.Core.Path.{◌≡◌, ◌∙◌}
+use mathlib.Core.Path.{◌≡◌, sym, ◌∙◌}
 use Prim.Native.Nat.{◌^◌}
+use Rattle.std.specs.Int.Bits.{or_zero_r}
+use Rattle.words.proofs.Parts.{run_out}
 use Rattle.cell.proofs.Sides.{one_bit}
 use Rattle.cell.proofs.Cell.one_side.Goals as goal
 
-pub returns : goal.returns
-returns c = λ h. let e : c.run-one.result ≡ 2 ^ c.args.bit = c.run-one.ensures ∙ one_bit c.args.bit h in rw e
+pub returns-clause-below : goal.returns-clause-below
+returns-clause-below c = λ h. let e : c.run-one.result ≡ 2 ^ c.args.bit = c.run-one.ensures ∙ one_bit c.args.bit h in rw e
+
+pub returns-clause-beyond : goal.returns-clause-beyond
+returns-clause-beyond c = λ h. let e : c.run-one.result ≡ 0 = c.run-one.ensures ∙ sym (run_out c.args.bit 1 h) in let f = or_zero_r c.args.self.fixed in let b = or_zero_r c.args.self.bits in rw (e, f, b)

@@ -12,11 +12,11 @@ use Rattle.maker.proofs.Writer.+make_node_make_tree.Goals as goal
 
 pub make_node-make_tree-requires : goal.make_node-make_tree-requires
 make_node-make_tree-requires t c =
-    omega (arith, fewer (cell_of c.args.cell) c.args.b c.args.table.now.width _ c.requires.1 c.requires.2 (ap (λ (x : Cell). x.fixed) (c.zero_side.ensures (bit_low c.args.table.now c.requires.1))))
+    omega (arith, fewer (cell_of c.args.cell) c.args.b c.args.table.now.width _ c.requires.1 c.requires.2 (ap (λ (x : Cell). x.fixed) (c.zero_side.ensures.below (bit_low c.args.table.now c.requires.1))))
 
 pub make_node-returns-in_err-zero-clause-made : goal.make_node-returns-in_err-zero-clause-made
 make_node-returns-in_err-zero-clause-made t c =
-    rw c.from_residual.ensures (zero_is_full _ _ _ _ _ (c.zero_side.ensures (bit_low c.args.table.now c.requires.1)) c.make_tree.ensures.made c.in_err-zero.was)
+    rw c.from_residual.ensures (zero_is_full _ _ _ _ _ (c.zero_side.ensures.below (bit_low c.args.table.now c.requires.1)) c.make_tree.ensures.made c.in_err-zero.was)
 
 pub make_node-test_word-requires : goal.make_node-test_word-requires
 make_node-test_word-requires t c =
@@ -25,18 +25,18 @@ make_node-test_word-requires t c =
 
 pub make_node-make_tree-requires-2 : goal.make_node-make_tree-requires-2
 make_node-make_tree-requires-2 t c =
-    omega (arith, fewer (cell_of c.args.cell) c.args.b c.args.table.now.width _ c.requires.1 c.requires.2 (ap (λ (x : Cell). x.fixed) (c.one_side.ensures (bit_low c.args.table.now c.requires.1))))
+    omega (arith, fewer (cell_of c.args.cell) c.args.b c.args.table.now.width _ c.requires.1 c.requires.2 (ap (λ (x : Cell). x.fixed) (c.one_side.ensures.below (bit_low c.args.table.now c.requires.1))))
 
 pub make_node-returns-in_err-one-clause-made : goal.make_node-returns-in_err-one-clause-made
 make_node-returns-in_err-one-clause-made t c =
     rw c.from_residual-in_err-one.ensures
-    (one_is_full _ _ _ _ _ (c.zero_side.ensures (bit_low c.args.table.now c.requires.1)) c.make_tree.ensures.made (c.one_side.ensures (bit_low c.args.table.now c.requires.1)) c.test_word.ensures c.in_ok-zero.was
+    (one_is_full _ _ _ _ _ (c.zero_side.ensures.below (bit_low c.args.table.now c.requires.1)) c.make_tree.ensures.made (c.one_side.ensures.below (bit_low c.args.table.now c.requires.1)) c.test_word.ensures c.in_ok-zero.was
     (c.put.ensures.same.limit ∙ c.make_tree.ensures.same.limit) c.put.ensures.words c.put.ensures.marks c.make_tree-2.ensures.made c.in_err-one.was)
 
 pub make_node-returns-clause-made : goal.make_node-returns-clause-made
 make_node-returns-clause-made t c =
     rw (c.or.ensures, c.max.ensures)
-    (both_written _ _ _ _ _ (c.zero_side.ensures (bit_low c.args.table.now c.requires.1)) c.make_tree.ensures.made (c.one_side.ensures (bit_low c.args.table.now c.requires.1)) c.test_word.ensures c.in_ok-zero.was
+    (both_written _ _ _ _ _ (c.zero_side.ensures.below (bit_low c.args.table.now c.requires.1)) c.make_tree.ensures.made (c.one_side.ensures.below (bit_low c.args.table.now c.requires.1)) c.test_word.ensures c.in_ok-zero.was
     (c.put.ensures.same.limit ∙ c.make_tree.ensures.same.limit) c.put.ensures.words c.put.ensures.marks c.make_tree-2.ensures.made c.in_ok-one.was)
 
 pub make_tree-returns-then-self-at-clause-made : goal.make_tree-returns-then-self-at-clause-made

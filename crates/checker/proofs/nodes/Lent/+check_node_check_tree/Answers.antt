@@ -19,26 +19,26 @@ check_node-returns-then-is_fixed t c = sides_fixed _ _ _ _ _ _ _ _ (sym c.is_fix
 
 pub check_node-check_tree-requires : goal.check_node-check_tree-requires
 check_node-check_tree-requires t c =
-    let z = fewer (cell_of c.args.cell) c.args.b c.args.self.now.table.now.width _ c.requires.2 (sym c.is_fixed.ensures ∙ c.if-is_fixed.false) (ap (λ (x : Cell). x.fixed) (c.zero_side.ensures (bit_low c.args.self.now.table.now c.requires.2))) in
+    let z = fewer (cell_of c.args.cell) c.args.b c.args.self.now.table.now.width _ c.requires.2 (sym c.is_fixed.ensures ∙ c.if-is_fixed.false) (ap (λ (x : Cell). x.fixed) (c.zero_side.ensures.below (bit_low c.args.self.now.table.now c.requires.2))) in
     (omega (arith, c.decreases), omega (arith, c.requires.0, c.requires.1))
 
 pub check_node-returns-in_err-end : goal.check_node-returns-in_err-end
 check_node-returns-in_err-end t c =
-    rw c.from_residual.ensures (zero_no _ _ _ _ _ _ _ _ (sym c.is_fixed.ensures ∙ c.if-is_fixed.false) (c.zero_side.ensures (bit_low c.args.self.now.table.now c.requires.2)) c.check_tree.ensures c.in_err-end.was)
+    rw c.from_residual.ensures (zero_no _ _ _ _ _ _ _ _ (sym c.is_fixed.ensures ∙ c.if-is_fixed.false) (c.zero_side.ensures.below (bit_low c.args.self.now.table.now c.requires.2)) c.check_tree.ensures c.in_err-end.was)
 
 pub check_node-returns-then-end-one : goal.check_node-returns-then-end-one
 check_node-returns-then-end-one t c =
-    zero_elsewhere _ _ _ _ _ _ _ _ (sym c.is_fixed.ensures ∙ c.if-is_fixed.false) (c.zero_side.ensures (bit_low c.args.self.now.table.now c.requires.2)) c.check_tree.ensures c.in_ok-end.was c.if-end-one.true
+    zero_elsewhere _ _ _ _ _ _ _ _ (sym c.is_fixed.ensures ∙ c.if-is_fixed.false) (c.zero_side.ensures.below (bit_low c.args.self.now.table.now c.requires.2)) c.check_tree.ensures c.in_ok-end.was c.if-end-one.true
 
 pub check_node-check_tree-requires-2 : goal.check_node-check_tree-requires-2
 check_node-check_tree-requires-2 t c =
-    let z = fewer (cell_of c.args.cell) c.args.b c.args.self.now.table.now.width _ c.requires.2 (sym c.is_fixed.ensures ∙ c.if-is_fixed.false) (ap (λ (x : Cell). x.fixed) (c.one_side.ensures (bit_low c.args.self.now.table.now c.requires.2))) in
+    let z = fewer (cell_of c.args.cell) c.args.b c.args.self.now.table.now.width _ c.requires.2 (sym c.is_fixed.ensures ∙ c.if-is_fixed.false) (ap (λ (x : Cell). x.fixed) (c.one_side.ensures.below (bit_low c.args.self.now.table.now c.requires.2))) in
     (omega (arith, c.decreases), c.requires.1)
 
 pub check_node-returns : goal.check_node-returns
 check_node-returns t c =
-    one_side_lem _ _ _ _ _ _ _ _ (sym c.is_fixed.ensures ∙ c.if-is_fixed.false) (c.zero_side.ensures (bit_low c.args.self.now.table.now c.requires.2)) c.check_tree.ensures c.in_ok-end.was c.if-end-one.false
-    (c.one_side.ensures (bit_low c.args.self.now.table.now c.requires.2)) c.check_tree-2.ensures
+    one_side_lem _ _ _ _ _ _ _ _ (sym c.is_fixed.ensures ∙ c.if-is_fixed.false) (c.zero_side.ensures.below (bit_low c.args.self.now.table.now c.requires.2)) c.check_tree.ensures c.in_ok-end.was c.if-end-one.false
+    (c.one_side.ensures.below (bit_low c.args.self.now.table.now c.requires.2)) c.check_tree-2.ensures
 
 pub check_tree-returns-in_err-node : goal.check_tree-returns-in_err-node
 check_tree-returns-in_err-node t c =
