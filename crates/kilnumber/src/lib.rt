@@ -25,7 +25,7 @@ use words::{Cause, Refusal};
 pub fn kilnumber_walk(tree: &[u8], word: u32) -> u64
     ensures { result ≡ packed (walk_bytes tree.now word) }
 {
-    match walker::walk(tree, word) {
+    match walker::walk_bytes(tree, word) {
         Ok(walked) => {
             let entry = walked.entry.unwrap_or(256);
             (entry as u64) + (walked.count as u64) * 65536
@@ -42,7 +42,7 @@ pub fn kilnumber_walk(tree: &[u8], word: u32) -> u64
 pub fn kilnumber_mask(tree: &[u8], word: u32) -> u32
     ensures { result ≡ mask_or_zero (walk_bytes tree.now word) }
 {
-    walker::mask(tree, word)
+    walker::mask_bytes(tree, word)
 }
 
 // What refuses any other call, in 64 bits: its number from bit 32 on, and its place.

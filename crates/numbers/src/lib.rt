@@ -134,6 +134,10 @@ impl Form {
             return Err(Refusal::Misfit(0));
         }
         let size = value as u64;
+        // most fields have no sign, and need no more: by the bits alone each value would pay for the other side
+        if !self.sign {
+            return Ok(Side { below: false, size });
+        }
         let bits = self.size_bits();
         if words::fits(value, bits) {
             return Ok(Side { below: false, size });

@@ -99,6 +99,7 @@ impl<'a, W: Write> Pages<'a, W> {
     pub fn flush(&mut self) -> io::Result<()>
         ensures written { OnOk result (Keeps (held (W.contents self.old.output.now) (take self.old.end self.old.room.now)) (W.contents self.new.output.now)) }
         ensures empty { OnOk result (self.new.end ≡ 0) }
+        ensures failed { OnErr result (self.new.end ≡ self.old.end) }
         ensures room { self.new.room.now ≡ self.old.room.now }
     {
         write_first(self.output, self.room, self.end)?;
@@ -115,6 +116,7 @@ impl<'a, W: Write> Pages<'a, W> {
             (held (W.contents self.new.output.now) (take self.new.end self.new.room.now))
             bytes.now) }
         ensures failed { OnErr result (self.new.room.now ≡ self.old.room.now) }
+        ensures kept { length bytes.now ≤ length self.old.room.now → OnErr result (self.new.end ≡ self.old.end) }
     {
         self.flush()?;
         if self.room.len() < bytes.len() {
@@ -125,7 +127,7 @@ impl<'a, W: Write> Pages<'a, W> {
         Ok(())
     }
 
-    // Puts bytes on the page; one that has no room for them is written out first.
+    // Puts bytes on the page; one that has no room for them is written out first. Where that fails, the page is as it was.
     #[inline(always)]
     pub fn put(&mut self, bytes: &[u8]) -> io::Result<()>
         ensures appended { OnOk result (Appends
@@ -133,6 +135,7 @@ impl<'a, W: Write> Pages<'a, W> {
             (held (W.contents self.new.output.now) (take self.new.end self.new.room.now))
             bytes.now) }
         ensures failed { OnErr result (self.new.room.now ≡ self.old.room.now) }
+        ensures kept { length bytes.now ≤ length self.old.room.now → OnErr result (self.new.end ≡ self.old.end) }
     {
         if self.room.len() - self.end < bytes.len() {
             return self.turn(bytes);

@@ -243,12 +243,15 @@ fn own_bits(width: u32, size: u32) -> u32
     words::run(width - size, size)
 }
 
-// The bits of a field's word.
+// The bits of a field's word, which are some: two shifts, where `run` would ask twice whether they end.
 fn field_bits(w: u32) -> u32
-    requires { field_low w + field_width w ≤ 32 }
+    requires { (0 < field_width w) × (field_low w + field_width w ≤ 32) }
     ensures { result ≡ field_bits w }
 {
-    words::run(words::part(w, 8, 8), words::part(w, 0, 8))
+    // kept: two bounds of one number each
+    let low = words::part(w, 8, 8);
+    let count = words::part(w, 0, 8);
+    (0xffff_ffff >> (32 - count)) << low
 }
 
 // Whether a field's word has no spare bit set: bits 23-16 are spare for every form but 2.

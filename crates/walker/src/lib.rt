@@ -3,8 +3,8 @@
 
 ghost use Rattle.std.specs.Prelude.{◌≡◌, ◌≤◌, ◌<◌};
 ghost use Rattle.flat.specs.Nodes.{node_of};
-ghost use Rattle.flat.specs.Walk.{path as path_of, ended, mask_or_zero};
-ghost use Rattle.walker.specs.Walked.{said, Small, walk_in, entered_in, EnteredBounds, went_of, WentBounds};
+ghost use Rattle.flat.specs.Walk.{path as path_of, ended, walk_of, mask_or_zero};
+ghost use Rattle.walker.specs.Walked.{said, Small, walk_in, walk_bytes, entered_in, EnteredBounds, went_of, WentBounds};
 
 use flat::{Header, Node};
 use words::{Refusal, Words};
@@ -86,8 +86,8 @@ fn path<W: Words + Copy>(tree: W, header: Header, word: u32) -> Result<Walked, R
     }
 }
 
-// Walks a tree by a word; of bytes, each word is low byte first.
-pub fn walk<W: Words + Copy>(tree: W, word: u32) -> Result<Walked, Refusal>
+// Walks a tree by a word, in either form; of bytes, each word is low byte first.
+pub fn walk_in<W: Words + Copy>(tree: W, word: u32) -> Result<Walked, Refusal>
     ensures result_value { said result ≡ walk_in (W.rest tree) (W.words tree) word }
     ensures small { Small (said result) }
 {
@@ -95,8 +95,25 @@ pub fn walk<W: Words + Copy>(tree: W, word: u32) -> Result<Walked, Refusal>
     path(tree, header, word)
 }
 
-// The mask of the bits tested alone, 0 when refused. It doesn't call `walk`, so that the library for C calls `walk` on bytes once, and
-// compiles it there without the mask.
+// Walks a tree by a word.
+pub fn walk(tree: &[u32], word: u32) -> Result<Walked, Refusal>
+    ensures result_value { said result ≡ walk_of tree.now word }
+    ensures small { Small (said result) }
+{
+    walk_in::<&[u32]>(tree, word)
+}
+
+// The same of a tree that is given as bytes, each word low byte first.
+#[tactic(auto, unfolding(crate::specs::Walked::walk_bytes))]
+pub fn walk_bytes(tree: &[u8], word: u32) -> Result<Walked, Refusal>
+    ensures result_value { said result ≡ walk_bytes tree.now word }
+    ensures small { Small (said result) }
+{
+    walk_in::<&[u8]>(tree, word)
+}
+
+// The mask of the bits tested alone, 0 when refused. It doesn't call `walk_in`, so that the library for C walks bytes in one place, and
+// compiles that without the mask.
 pub fn mask<W: Words + Copy>(tree: W, word: u32) -> u32
     ensures { result ≡ mask_or_zero (walk_in (W.rest tree) (W.words tree) word) }
 {
@@ -108,4 +125,12 @@ pub fn mask<W: Words + Copy>(tree: W, word: u32) -> u32
         Ok(walked) => walked.mask,
         Err(_) => 0,
     }
+}
+
+// The same of a tree that is given as bytes.
+#[tactic(auto, unfolding(crate::specs::Walked::walk_bytes))]
+pub fn mask_bytes(tree: &[u8], word: u32) -> u32
+    ensures { result ≡ mask_or_zero (walk_bytes tree.now word) }
+{
+    mask::<&[u8]>(tree, word)
 }

@@ -1,10 +1,11 @@
-use Rattle.words.specs.Words.{run}
-use Rattle.words.proofs.Parts.{run_whole}
+use Rattle.words.proofs.Parts.{run_shifts}
 use Rattle.table.specs.Table.{field_bits}
-use Prim.Native.Nat.{◌%◌, ◌^◌}
+use Prim.Native.Nat.{ℕ, ◌-◌, ◌*◌, ◌/◌, ◌%◌, ◌^◌}
 use mathlib.Core.Path.{◌∙◌, ap₂}
 use Rattle.table.proofs.reading.field_bits.Goals as goal
 
 pub returns : goal.returns
 unfolding field_bits
-returns c = c.run.ensures ∙ ap₂ (λ l k. run l k % 2 ^ 32) c.part.ensures c.part-2.ensures ∙ run_whole _ _ c.requires
+returns c =
+    ap₂ (λ (l k : ℕ). ((2 ^ 32 - 1) / 2 ^ (32 - k) * 2 ^ l) % 2 ^ 32) c.part-low.ensures c.part-count.ensures
+    ∙ run_shifts _ _ c.requires.1

@@ -1,7 +1,7 @@
 use Rattle.words.specs.Outcome.{number_of}
 use Rattle.words.specs.declared.Fault.{Fault}
 use Rattle.words.specs.declared.Fault.TheVariants.{FirstWord, Structure, Pattern, Field}
-use Rattle.table.proofs.Laws.{passed_on, goes_on, stops, word_stops, word_passes, rule_below}
+use Rattle.table.proofs.Laws.{passed_on, goes_on, stops, word_stops, word_passes, rule_some, rule_below}
 use Rattle.table.specs.Check.{fine, fault, field_word, field_check}
 use Prim.Native.Nat.{ℕ}
 use mathlib.Core.Path.{◌≡◌, sym, ap, ◌∙◌}
@@ -34,7 +34,8 @@ returns-in_err-field_rule-clause-check c =
     ∙ rw (← c.word-w.ensures) (goes_on _ _ _ c.in_ok-has.ensures.check (goes_on _ _ _ e c.in_err-field_rule.ensures))
 
 pub field_bits-requires : goal.field_bits-requires
-field_bits-requires c = omega (arith, rule_below _ _ _ _ _ (sym c.in_ok-field_rule.ensures), c.args.self.now.small)
+field_bits-requires c =
+    (rule_some _ _ _ _ _ (sym c.in_ok-field_rule.ensures), omega (arith, rule_below _ _ _ _ _ (sym c.in_ok-field_rule.ensures), c.args.self.now.small))
 
 pub returns-clause-check : goal.returns-clause-check
 unfolding field_check

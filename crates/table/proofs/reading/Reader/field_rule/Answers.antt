@@ -28,7 +28,10 @@ returns-in_err-need-3 c =
 
 pub field_bits-requires : goal.field_bits-requires
 field_bits-requires c =
-    omega (arith, c.part-count.ensures, c.part-low.ensures, c.args.self.now.small, leb-true _ _ c.in_ok-need.ensures.met, leb-true _ _ c.in_ok-need-3.ensures.met)
+    let some = leb-true _ _ c.in_ok-need.ensures.met in (
+      omega (arith, c.part-count.ensures, some),
+      omega (arith, c.part-count.ensures, c.part-low.ensures, c.args.self.now.small, leb-true _ _ c.in_ok-need-3.ensures.met),
+    )
 
 pub returns : goal.returns
 unfolding field_rule

@@ -5,7 +5,7 @@ use Rattle.walker.specs.Walked.{said, Small}
 use Rattle.walker.specs.declared.Walked as found
 use Rattle.walker.proofs.Nodes.{returned}
 use Rattle.walker.proofs.Headers.{shut, shut_small, walks}
-use Rattle.walker.proofs.walk.Goals as goal
+use Rattle.walker.proofs.walk_in.Goals as goal
 
 pub returns-in_err-header-clause-result_value : goal.returns-in_err-header-clause-result_value
 returns-in_err-header-clause-result_value g c =
