@@ -112,8 +112,8 @@ pub fn walk_bytes(tree: &[u8], word: u32) -> Result<Walked, Refusal>
     walk_in::<&[u8]>(tree, word)
 }
 
-// The mask of the bits tested alone, 0 when refused. It doesn't call `walk_in`, so that the library for C walks bytes in one place, and
-// compiles that without the mask.
+// The mask of the bits tested alone, 0 when refused. It doesn't call `walk_in`, so that the library for C calls `walk_in` on bytes once, and
+// compiles it there without the mask.
 pub fn mask<W: Words + Copy>(tree: W, word: u32) -> u32
     ensures { result ≡ mask_or_zero (walk_in (W.rest tree) (W.words tree) word) }
 {
