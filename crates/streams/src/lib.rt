@@ -127,7 +127,8 @@ impl<'a, W: Write> Pages<'a, W> {
         Ok(())
     }
 
-    // Puts bytes on the page; one that has no room for them is written out first. Where that fails, the page is as it was.
+    // Puts bytes on the page; one that has no room for them is written out first. Where that fails, the page is as it
+    // was, if it is long enough for the bytes.
     #[inline(always)]
     pub fn put(&mut self, bytes: &[u8]) -> io::Result<()>
         ensures appended { OnOk result (Appends

@@ -1,15 +1,12 @@
 use Prim.Native.Nat.{◌^◌, ◌≤◌, ◌<◌}
-use mathlib.Core.Bool.{Bool, true, false, not}
-use mathlib.Core.Path.{◌≡◌, refl, sym, ◌∙◌}
+use mathlib.Core.Bool.{false}
+use mathlib.Core.Path.{◌≡◌, sym, ◌∙◌}
 use borrow.Author.Tests.{ltb-true, ltb-false}
 use native.Mathlib.Omega.{arith}
+use Rattle.words.proofs.Logic.{not_t}
 use Rattle.numbers.specs.Whole.{size_bits, on_side}
 use Rattle.numbers.proofs.Ranges.{side_out, side_up, side_down, near_down}
 use Rattle.numbers.proofs.Form.side_in.Goals as goal
-
-unsigned : (s : Bool) → not s ≡ true → s ≡ false
-unsigned true e = sym e
-unsigned false e = refl
 
 pub returns-then-not-fits-clause-said : goal.returns-then-not-fits-clause-said
 returns-then-not-fits-clause-said c = side_out _ _ _ (sym c.fits.ensures ∙ c.if-not-fits.true)
@@ -19,7 +16,7 @@ unfolding size_bits
 returns-then-not-self-clause-said c =
     let f = c.args.self in
     let below = ltb-true _ _ (sym c.fits.ensures ∙ c.if-not-fits.false) in
-    let plain : f.sign ≡ false = unsigned f.sign c.if-not-self.true in
+    let plain : f.sign ≡ false = not_t c.if-not-self.true in
     let within : c.args.value < 2 ^ size_bits f.sign f.width = rw plain below in
     side_up f.sign _ _ below within
 
